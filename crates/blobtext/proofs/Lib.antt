@@ -1,0 +1,5 @@
+pub mod Store
+pub mod Hex
+pub mod Base64
+pub mod ReadBack
+pub mod Examples

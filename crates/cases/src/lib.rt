@@ -1,0 +1,95 @@
+// Test cases as lines of text with bytes in hexadecimal: for the programs that run worked cases and vectors.
+// Nothing here is part of a job, so its contracts say only what keeps the programs inside their buffers.
+ghost use mathlib.Core.Path.{_≡_};
+ghost use Prim.Native.Nat.{_+_, _≤_, _<_};
+ghost use lib.ListN.{length};
+
+// The end of the line that begins at a place: the next line feed, or the text's end.
+pub fn line_end(text: &[u8], from: usize) -> usize
+    requires { ⌜ from ≤ length (now text) ⌝ }
+    ensures { λ r. ⌜ (from ≤ r) × (r ≤ length (now (text .entry))) ⌝ }
+{
+    let mut at = from;
+    while at < text.len() {
+        if text[at] == b'\n' {
+            return at;
+        }
+        at += 1;
+    }
+    at
+}
+
+// The end of the word that begins at a place: the next space, or the line's end.
+pub fn word_end(line: &[u8], from: usize) -> usize
+    requires { ⌜ from ≤ length (now line) ⌝ }
+    ensures { λ r. ⌜ (from ≤ r) × (r ≤ length (now (line .entry))) ⌝ }
+{
+    let mut at = from;
+    while at < line.len() {
+        if line[at] == b' ' {
+            return at;
+        }
+        at += 1;
+    }
+    at
+}
+
+// The value of a hexadecimal digit, or 16.
+pub fn digit(b: u8) -> u8
+    ensures { λ r. ⌜ r ≤ 16 ⌝ }
+{
+    match b {
+        b'0'..=b'9' => b - 48,
+        b'A'..=b'F' => b - 55,
+        _ => 16,
+    }
+}
+
+// The bytes that a word's pairs of hexadecimal digits spell, up to the first other pair; how many there are.
+pub fn bytes(word: &[u8], out: &mut [u8]) -> usize
+    ensures { λ r. ⌜ (r ≤ length (now (out .exit))) × (length (now (out .exit)) ≡ length (now (out .entry))) ⌝ }
+{
+    let mut count = 0;
+    let mut at = 0;
+    while at < word.len() {
+        if word.len() - at < 2 {
+            return count;
+        }
+        let high = digit(word[at]);
+        let low = digit(word[at + 1]);
+        if 15 < high {
+            return count;
+        }
+        if 15 < low {
+            return count;
+        }
+        if out.len() <= count {
+            return count;
+        }
+        out[count] = high * 16 + low;
+        count += 1;
+        at += 2;
+    }
+    count
+}
+
+// The number that a word's decimal digits spell, up to the first other byte, at most 99,999,999.
+pub fn decimal(word: &[u8]) -> usize
+    ensures { λ r. ⌜ r ≤ 99999999 ⌝ }
+{
+    let mut value: usize = 0;
+    let mut at = 0;
+    while at < word.len() {
+        let d = digit(word[at]);
+        if 9 < d {
+            return value;
+        }
+        let next = value * 10 + d as usize;
+        if 99999999 < next {
+            return value;
+        }
+        value = next;
+        at += 1;
+    }
+    value
+}

@@ -1,0 +1,5 @@
+pub mod Tests
+pub mod Match
+pub mod Table
+pub mod Overlay
+pub mod Units

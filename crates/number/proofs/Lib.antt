@@ -1,0 +1,4 @@
+pub mod Capped
+pub mod Going
+pub mod Spelling
+pub mod Within

@@ -1,0 +1,9 @@
+pub mod Division
+pub mod Chunked
+pub mod Little
+pub mod Stores
+pub mod Digits
+pub mod Fraction
+pub mod Whole
+pub mod Signed
+pub mod Facts

@@ -1,0 +1,21 @@
+-- `token::class_at` meets its contract: the table's rule at the byte. Assumes nothing.
+use borrow.Author.Needs.{needs}
+use native.Mathlib.Omega.{arith}
+use Rattle.token.proofs.Rule.{class-here}
+use Rattle.token.proofs.class_at.Statement.{statement}
+use Rattle.token.proofs.class_at.Tie as tie
+
+mul-class-from : tie.Need-mul-class-from
+mul-class-from c = search needs
+
+element-copy-out-class-from : tie.Need-element-copy-out-class-from
+element-copy-out-class-from c = search needs
+
+class-from-requires : tie.Need-class-from-requires
+class-from-requires c κs = search needs
+
+returns : tie.Need-returns
+returns c = class-here (c .before .before .pre) (omega arith) (c .class-from .ensures)
+
+pub class-at-spec : {M : Type 1} → statement M
+class-at-spec = tie.close (tie.spec mul-class-from element-copy-out-class-from class-from-requires returns)

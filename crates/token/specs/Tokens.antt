@@ -1,0 +1,97 @@
+-- The tokens of the format (004, section 2, the codes in their order there), each with its class and the shape of its
+-- payload. Sizes, bounds and rules of the shapes are those of 01, "Value rules".
+use Prim.Native.Nat.{ℕ}
+use mathlib.Core.Bool.{cond}
+use mathlib.Core.List.{List, [], _∷_}
+use lib.Dec.{eqb}
+use Rattle.token.specs.declared.Class.{Class}
+use Rattle.token.specs.declared.Class.the-variants.{Unknown, Value, LaterValue, XmlDecl, Encoding, DocType, System, Public, Subset, Element, EndElement, Attribute, EndAttributes, Pi, Comment, Cdata, CdataEnd, NameDef, QnameDef, Nest, EndNest, Extension, Flush}
+use Rattle.token.specs.declared.Shape.{Shape}
+use Rattle.token.specs.declared.Shape.the-variants.{Nothing, Fixed, Text, Blob, CodePage, Decimal, Qname, Stamp, Date, Time, ZonedTime}
+
+pub record Token : Type 0 where
+  pub code : ℕ
+  pub class : Class
+  pub shape : Shape
+
+abbrev pub token : ℕ → Class → Shape → Token
+token code class shape = record { code = code; class = class; shape = shape }
+
+-- `Text n`, `Blob n`, `CodePage n`: the length is a number of at most n bytes (mb32: 5, mb64: 10).
+-- `Date`, `Time`, `ZonedTime` carry the first and the last day number that 01 allows.
+abbrev pub tokens : List Token
+tokens =
+    token 0x01 Value (Fixed 2)  -- SQL-SMALLINT
+    ∷ token 0x02 Value (Fixed 4)  -- SQL-INT
+    ∷ token 0x03 Value (Fixed 4)  -- SQL-REAL
+    ∷ token 0x04 Value (Fixed 8)  -- SQL-FLOAT
+    ∷ token 0x05 Value (Fixed 8)  -- SQL-MONEY
+    ∷ token 0x06 Value (Fixed 1)  -- SQL-BIT
+    ∷ token 0x07 Value (Fixed 1)  -- SQL-TINYINT
+    ∷ token 0x08 Value (Fixed 8)  -- SQL-BIGINT
+    ∷ token 0x09 Value (Fixed 16)  -- SQL-UUID
+    ∷ token 0x0A Value Decimal  -- SQL-DECIMAL
+    ∷ token 0x0B Value Decimal  -- SQL-NUMERIC
+    ∷ token 0x0C Value (Blob 5)  -- SQL-BINARY
+    ∷ token 0x0D Value (CodePage 5)  -- SQL-CHAR
+    ∷ token 0x0E Value (Text 5)  -- SQL-NCHAR
+    ∷ token 0x0F Value (Blob 10)  -- SQL-VARBINARY
+    ∷ token 0x10 Value (CodePage 10)  -- SQL-VARCHAR
+    ∷ token 0x11 Value (Text 10)  -- SQL-NVARCHAR
+    ∷ token 0x12 Value (Fixed 8)  -- SQL-DATETIME
+    ∷ token 0x13 Value (Fixed 4)  -- SQL-SMALLDATETIME
+    ∷ token 0x14 Value (Fixed 4)  -- SQL-SMALLMONEY
+    ∷ token 0x16 Value (CodePage 10)  -- SQL-TEXT
+    ∷ token 0x17 Value (Blob 10)  -- SQL-IMAGE
+    ∷ token 0x18 Value (Text 10)  -- SQL-NTEXT
+    ∷ token 0x1B Value (Blob 5)  -- SQL-UDT
+    ∷ token 0x7A LaterValue (ZonedTime 0 16777215)  -- XSD-TIMEOFFSET
+    ∷ token 0x7B LaterValue (ZonedTime 0 3652058)  -- XSD-DATETIMEOFFSET
+    ∷ token 0x7C LaterValue (ZonedTime 0 3652058)  -- XSD-DATEOFFSET
+    ∷ token 0x7D LaterValue (Time 693595 693595)  -- XSD-TIME2
+    ∷ token 0x7E LaterValue (Time 0 3652058)  -- XSD-DATETIME2
+    ∷ token 0x7F LaterValue (Date 0 3652058)  -- XSD-DATE2
+    ∷ token 0x81 Value (Stamp 0)  -- XSD-TIME
+    ∷ token 0x82 Value (Stamp 2)  -- XSD-DATETIME
+    ∷ token 0x83 Value (Stamp 1)  -- XSD-DATE
+    ∷ token 0x84 Value (Blob 5)  -- XSD-BINHEX
+    ∷ token 0x85 Value (Blob 5)  -- XSD-BASE64
+    ∷ token 0x86 Value (Fixed 1)  -- XSD-BOOLEAN
+    ∷ token 0x87 Value Decimal  -- XSD-DECIMAL
+    ∷ token 0x88 Value (Fixed 1)  -- XSD-BYTE
+    ∷ token 0x89 Value (Fixed 2)  -- XSD-UNSIGNEDSHORT
+    ∷ token 0x8A Value (Fixed 4)  -- XSD-UNSIGNEDINT
+    ∷ token 0x8B Value (Fixed 8)  -- XSD-UNSIGNEDLONG
+    ∷ token 0x8C Value Qname  -- XSD-QNAME
+    ∷ token 0xE9 Flush Nothing  -- FLUSH-DEFINED-NAME-TOKENS
+    ∷ token 0xEA Extension (Blob 5)  -- EXTN-TOKEN
+    ∷ token 0xEB EndNest Nothing  -- ENDNEST-TOKEN
+    ∷ token 0xEC Nest Nothing  -- NEST-TOKEN
+    ∷ token 0xEF QnameDef Nothing  -- QNAMEDEF-TOKEN
+    ∷ token 0xF0 NameDef (Text 5)  -- NAMEDEF-TOKEN
+    ∷ token 0xF1 CdataEnd Nothing  -- CDATAEND-TOKEN
+    ∷ token 0xF2 Cdata (Text 5)  -- CDATA-TOKEN
+    ∷ token 0xF3 Comment (Text 5)  -- COMMENT-TOKEN
+    ∷ token 0xF4 Pi Nothing  -- PI-TOKEN
+    ∷ token 0xF5 EndAttributes Nothing  -- ENDATTRIBUTES-TOKEN
+    ∷ token 0xF6 Attribute Qname  -- ATTRIBUTE-TOKEN
+    ∷ token 0xF7 EndElement Nothing  -- ENDELEMENT-TOKEN
+    ∷ token 0xF8 Element Qname  -- ELEMENT-TOKEN
+    ∷ token 0xF9 Subset (Text 5)  -- SUBSET-TOKEN
+    ∷ token 0xFA Public (Text 5)  -- PUBLIC-TOKEN
+    ∷ token 0xFB System (Text 5)  -- SYSTEM-TOKEN
+    ∷ token 0xFC DocType (Text 5)  -- DOCTYPEDECL-TOKEN
+    ∷ token 0xFD Encoding (Text 5)  -- ENCODING-TOKEN
+    ∷ token 0xFE XmlDecl (Text 5)  -- XMLDECL-TOKEN
+    ∷ []
+
+-- the token of a code; a code that is not listed is no token
+abbrev pub find : ℕ → List Token → Token
+find code [] = token code Unknown Nothing
+find code (t ∷ ts) = cond (eqb code (t .code)) t (find code ts)
+
+unfoldable pub classOf : ℕ → Class
+classOf code = find code tokens .class
+
+unfoldable pub shapeOf : ℕ → Shape
+shapeOf code = find code tokens .shape

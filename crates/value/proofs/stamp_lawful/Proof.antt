@@ -1,0 +1,20 @@
+-- `value::stamp_lawful` meets its contract. Assumes nothing.
+use borrow.Author.Needs.{needs}
+use Rattle.value.proofs.Rules.{stamp-sized, stamp-low}
+use Rattle.value.proofs.stamp_lawful.Statement.{statement}
+use Rattle.value.proofs.stamp_lawful.Tie as tie
+
+shared-slice-read-wide : tie.Need-shared-slice-read-wide
+shared-slice-read-wide c = search needs
+
+wide-requires : tie.Need-wide-requires
+wide-requires c κs = search needs
+
+returns : tie.Need-returns
+returns c = stamp-low _ _ (c .before .before .if1 .taken) (c .wide .ensures .0)
+
+returns-2 : tie.Need-returns-2
+returns-2 c = stamp-sized _ _ (c .if1 .left)
+
+pub stamp-lawful-spec : {M : Type 1} → statement M
+stamp-lawful-spec = tie.close (tie.spec shared-slice-read-wide wide-requires returns returns-2)

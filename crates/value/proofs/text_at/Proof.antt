@@ -1,0 +1,50 @@
+-- `value::text_at` meets its contract. Assumes nothing.
+use borrow.Author.Needs.{needs}
+use mathlib.Core.Path.{_∙_}
+use lib.ListN.{length}
+use Rattle.number.proofs.Within.{is-within}
+use Rattle.value.proofs.Fields.{needed-there, needed-short, text-on}
+use native.Mathlib.Omega.{arith}
+use Rattle.value.proofs.text_at.Statement.{statement}
+use Rattle.value.proofs.text_at.Tie as tie
+
+read-requires : tie.Need-read-requires
+read-requires c κs = search needs
+
+enum-known-number : tie.Need-enum-known-number
+enum-known-number c = search needs
+
+enum-known-value : tie.Need-enum-known-value
+enum-known-value c = search needs
+
+sub-if1 : tie.Need-sub-if1
+sub-if1 c = let w = is-within (length (c .before .before .before .before .before .args .doc .now)) (c .before .before .before .before .before .args .at) (c .before .value .given .1) (c .before .before .before .read .ensures .1) in omega arith
+
+mul-t15 : tie.Need-mul-t15
+mul-t15 c = omega arith
+
+returns : tie.Need-returns
+returns c = text-on (c .before .before .before .before .before .args .doc .now) (c .before .before .before .before .before .args .at) _ _ (c .before .before .before .read .ensures .0) (c .before .number .given .1)
+
+returns-2 : tie.Need-returns-2
+returns-2 c =
+    let w = is-within (length (c .before .before .before .before .before .before .args .doc .now)) (c .before .before .before .before .before .before .args .at) (c .before .before .value .given .1) (c .before .before .before .before .read .ensures .1) in
+    needed-there _ _ _ (omega arith) ∙ text-on (c .before .before .before .before .before .before .args .doc .now) (c .before .before .before .before .before .before .args .at) _ _ (c .before .before .before .before .read .ensures .0) (c .before .before .value .given .1)
+
+returns-3 : tie.Need-returns-3
+returns-3 c =
+    let w = is-within (length (c .before .before .before .before .before .before .args .doc .now)) (c .before .before .before .before .before .before .args .at) (c .before .before .value .given .1) (c .before .before .before .before .read .ensures .1) in
+    needed-short _ _ _ (omega arith) ∙ text-on (c .before .before .before .before .before .before .args .doc .now) (c .before .before .before .before .before .before .args .at) _ _ (c .before .before .before .before .read .ensures .0) (c .before .before .value .given .1)
+
+pub text-at-spec : {M : Type 1} → statement M
+text-at-spec =
+    tie.close
+    (tie.spec
+    read-requires
+    enum-known-number
+    enum-known-value
+    sub-if1
+    mul-t15
+    returns
+    returns-2
+    returns-3)

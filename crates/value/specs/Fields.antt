@@ -1,0 +1,76 @@
+-- Where a token's payload lies in a document, and what refuses it: 01, "Document rules", "Answer numbers" and "Rows".
+use Prim.Native.Nat.{ℕ, _+_, _*_, _≤_, _<_}
+use mathlib.Core.Bool.{cond}
+use mathlib.Core.List.{List}
+use lib.Dec.{ltb, leb}
+use lib.ListN.{length, getD}
+use Rattle.lists.specs.Lists.{part}
+use Rattle.token.specs.Answers.{missing, badValue, largest}
+use Rattle.token.specs.declared.Shape.{Shape}
+use Rattle.token.specs.declared.Shape.the-variants.{Nothing, Fixed, Text, Blob, CodePage, Decimal, Qname, Stamp, Date, Time, ZonedTime}
+use Rattle.number.specs.Number.{numberAt}
+use Rattle.number.specs.declared.Number.{Number}
+use Rattle.number.specs.declared.Number.the-variants as number
+use Rattle.value.specs.Rules.{decimalSize, timeBytes, lawful}
+use Rattle.value.specs.declared.Field.{Field}
+use Rattle.value.specs.declared.Field.the-variants.{Payload, Reference, Refused}
+
+-- so many bytes from a place on, or 2
+unfoldable pub needed : List ℕ → ℕ → ℕ → Field
+needed doc place size = cond (leb (place + size) (length doc)) (Payload place size) (Refused missing (length doc))
+
+-- after a length in 16-bit units
+abbrev pub textAfter : List ℕ → Number → Field
+textAfter doc (number.Is units next) = needed doc next (2 * units)
+textAfter doc (number.Refused number place) = Refused number place
+
+-- after a length in bytes
+abbrev pub blobAfter : List ℕ → Number → Field
+blobAfter doc (number.Is size next) = needed doc next size
+blobAfter doc (number.Refused number place) = Refused number place
+
+-- after a decimal's length, which is judged once read
+abbrev pub decimalAfter : List ℕ → ℕ → Number → Field
+decimalAfter doc at (number.Is size next) = cond (decimalSize size) (needed doc next size) (Refused badValue at)
+decimalAfter doc at (number.Refused number place) = Refused number place
+
+-- a time's precision is judged once read; then so many bytes more than the time has
+unfoldable pub timeField : List ℕ → ℕ → ℕ → Field
+timeField doc at more =
+    cond (ltb (at + 1) (length doc))
+    (cond (leb (getD doc (at + 1) 0) 7) (needed doc (at + 1) (1 + timeBytes (getD doc (at + 1) 0) + more)) (Refused badValue at))
+    (Refused missing (length doc))
+
+abbrev pub qnameAfter : Number → Field
+qnameAfter (number.Is value next) = Reference (record { 0 = value }) next
+qnameAfter (number.Refused number place) = Refused number place
+
+-- the payload of the token at a place, before the rules on its bytes
+unfoldable pub extentAt : Shape → List ℕ → ℕ → Field
+extentAt Nothing doc at = needed doc (at + 1) 0
+extentAt (Fixed size) doc at = needed doc (at + 1) size
+extentAt (Text most) doc at = textAfter doc (numberAt most doc (at + 1))
+extentAt (Blob most) doc at = blobAfter doc (numberAt most doc (at + 1))
+extentAt (CodePage most) doc at = blobAfter doc (numberAt most doc (at + 1))
+extentAt Decimal doc at = decimalAfter doc at (numberAt 5 doc (at + 1))
+extentAt Qname doc at = qnameAfter (numberAt 5 doc (at + 1))
+extentAt (Stamp low) doc at = needed doc (at + 1) 8
+extentAt (Date first last) doc at = needed doc (at + 1) 3
+extentAt (Time first last) doc at = timeField doc at 3
+extentAt (ZonedTime first last) doc at = timeField doc at 5
+
+-- then every other rule
+abbrev pub ruled : Shape → List ℕ → ℕ → Field → Field
+ruled shape doc at (Payload place size) = cond (lawful shape (part doc place size)) (Payload place size) (Refused badValue at)
+ruled shape doc at (Reference number next) = Reference number next
+ruled shape doc at (Refused number place) = Refused number place
+
+-- what the token at a place carries: its payload's place and size, or a qname's number and the place after it, or the refusal
+unfoldable pub fieldAt : Shape → List ℕ → ℕ → Field
+fieldAt shape doc at = ruled shape doc at (extentAt shape doc at)
+
+-- bounds that a caller needs
+abbrev pub Inside : ℕ → ℕ → Field → Type 0
+Inside size at (Payload place n) = (at < place) × (place + n ≤ size)
+Inside size at (Reference number next) = (at < next) × (next ≤ size) × (number .0 ≤ largest)
+Inside size at (Refused number place) = Unit

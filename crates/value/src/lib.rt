@@ -1,0 +1,299 @@
+// A token's payload: where it lies in the document, where the next token starts, and the value rules
+// (01, "Document rules"; 004, sections 2.3 and 2.4).
+ghost use mathlib.Core.Path.{_≡_};
+ghost use mathlib.Core.Bool.{Bool};
+ghost use Prim.Native.Nat.{_+_, _≤_, _<_};
+ghost use lib.ListN.{length};
+ghost use Rattle.lists.specs.Lists.{part, little};
+ghost use Rattle.number.specs.Number.{numberAt};
+ghost use Rattle.value.specs.Rules.{decimalSize, decimalLawful, timeBytes, dayWithin, zoneLawful, timeLawful, zonedLawful, lawful};
+ghost use Rattle.value.specs.Fields.{needed, textAfter, blobAfter, decimalAfter, timeField, qnameAfter, extentAt, fieldAt, Inside};
+use number::Number;
+use token::QnameNumber;
+use token::Shape;
+
+pub enum Field {
+    // the payload; the next token starts after it
+    Payload { place: usize, size: usize },
+    // the number of a qname, and where the next token starts
+    Reference { number: QnameNumber, next: usize },
+    Refused { number: u32, place: usize },
+}
+
+// ---- where a payload lies
+
+// Nothing is added to a place before it is tested: a length may be far over the document's.
+fn needed_at(doc: &[u8], place: usize, size: usize) -> Field
+    requires { ⌜ place ≤ length (now doc) ⌝ }
+    ensures { λ r. ⌜ r ≡ needed (now (doc .entry)) place size ⌝ }
+{
+    if size <= doc.len() - place {
+        Field::Payload { place, size }
+    } else {
+        Field::Refused {
+            number: token::MISSING,
+            place: doc.len(),
+        }
+    }
+}
+
+fn text_at(doc: &[u8], at: usize, most: usize) -> Field
+    ensures { λ r. ⌜ r ≡ textAfter (now (doc .entry)) (numberAt most (now (doc .entry)) at) ⌝ }
+{
+    match number::read(doc, at, most) {
+        Number::Refused { number, place } => Field::Refused { number, place },
+        Number::Is { value, next } => {
+            if value <= (doc.len() - next) / 2 {
+                Field::Payload {
+                    place: next,
+                    size: 2 * value,
+                }
+            } else {
+                Field::Refused {
+                    number: token::MISSING,
+                    place: doc.len(),
+                }
+            }
+        }
+    }
+}
+
+fn blob_at(doc: &[u8], at: usize, most: usize) -> Field
+    ensures { λ r. ⌜ r ≡ blobAfter (now (doc .entry)) (numberAt most (now (doc .entry)) at) ⌝ }
+{
+    match number::read(doc, at, most) {
+        Number::Refused { number, place } => Field::Refused { number, place },
+        Number::Is { value, next } => needed_at(doc, next, value),
+    }
+}
+
+fn decimal_size(n: usize) -> bool
+    ensures { λ r. ⌜ r ≡ decimalSize n ⌝ }
+{
+    match n {
+        7 => true,
+        11 => true,
+        15 => true,
+        19 => true,
+        _ => false,
+    }
+}
+
+// `at` is the token's place, for the refusal of the length.
+fn decimal_at(doc: &[u8], at: usize) -> Field
+    requires { ⌜ at < length (now doc) ⌝ }
+    ensures { λ r. ⌜ r ≡ decimalAfter (now (doc .entry)) at (numberAt 5 (now (doc .entry)) (at + 1)) ⌝ }
+{
+    match number::read(doc, at + 1, 5) {
+        Number::Refused { number, place } => Field::Refused { number, place },
+        Number::Is { value, next } => {
+            if decimal_size(value) {
+                needed_at(doc, next, value)
+            } else {
+                Field::Refused {
+                    number: token::BAD_VALUE,
+                    place: at,
+                }
+            }
+        }
+    }
+}
+
+fn time_bytes(precision: u8) -> usize
+    ensures { λ r. ⌜ (r ≡ timeBytes precision) × (3 ≤ r) × (r ≤ 5) ⌝ }
+{
+    if precision < 3 {
+        return 3;
+    }
+    if precision < 5 {
+        return 4;
+    }
+    5
+}
+
+// A time with `more` bytes after it; `at` is the token's place.
+fn time_at(doc: &[u8], at: usize, more: usize) -> Field
+    requires { ⌜ (at < length (now doc)) × (more ≤ 5) ⌝ }
+    ensures { λ r. ⌜ r ≡ timeField (now (doc .entry)) at more ⌝ }
+{
+    let place = at + 1;
+    if doc.len() <= place {
+        return Field::Refused {
+            number: token::MISSING,
+            place: doc.len(),
+        };
+    }
+    let precision = doc[place];
+    if 7 < precision {
+        return Field::Refused {
+            number: token::BAD_VALUE,
+            place: at,
+        };
+    }
+    needed_at(doc, place, 1 + time_bytes(precision) + more)
+}
+
+fn qname_at(doc: &[u8], at: usize) -> Field
+    ensures { λ r. ⌜ r ≡ qnameAfter (numberAt 5 (now (doc .entry)) at) ⌝ }
+{
+    match number::read(doc, at, 5) {
+        Number::Refused { number, place } => Field::Refused { number, place },
+        Number::Is { value, next } => Field::Reference {
+            number: QnameNumber(value),
+            next,
+        },
+    }
+}
+
+// The payload of the token at a place, before the rules on its bytes.
+fn extent_at(shape: Shape, doc: &[u8], at: usize) -> Field
+    requires { ⌜ at < length (now doc) ⌝ }
+    ensures { λ r. ⌜ r ≡ extentAt shape (now (doc .entry)) at ⌝ }
+{
+    match shape {
+        Shape::Nothing => needed_at(doc, at + 1, 0),
+        Shape::Fixed(size) => needed_at(doc, at + 1, size),
+        Shape::Text(most) => text_at(doc, at + 1, most),
+        Shape::Blob(most) => blob_at(doc, at + 1, most),
+        Shape::CodePage(most) => blob_at(doc, at + 1, most),
+        Shape::Decimal => decimal_at(doc, at),
+        Shape::Qname => qname_at(doc, at + 1),
+        Shape::Stamp(_) => needed_at(doc, at + 1, 8),
+        Shape::Date { first: _, last: _ } => needed_at(doc, at + 1, 3),
+        Shape::Time { first: _, last: _ } => time_at(doc, at, 3),
+        Shape::ZonedTime { first: _, last: _ } => time_at(doc, at, 5),
+    }
+}
+
+// ---- the value rules
+
+fn wide(b: u8) -> usize
+    ensures { λ r. ⌜ (r ≡ b) × (r < 256) ⌝ }
+{
+    b as usize
+}
+
+fn decimal_lawful(p: &[u8]) -> bool
+    ensures { λ r. ⌜ r ≡ decimalLawful (now (p .entry)) ⌝ }
+{
+    if decimal_size(p.len()) {
+        if 38 < p[0] {
+            return false;
+        }
+        if p[0] < p[1] {
+            return false;
+        }
+        return p[2] <= 1;
+    }
+    false
+}
+
+// Three bytes from a place on, as a day number within two bounds.
+fn day_within(first: usize, last: usize, p: &[u8], at: usize) -> bool
+    requires { ⌜ at + 3 ≤ length (now p) ⌝ }
+    ensures { λ r. ⌜ r ≡ dayWithin first last (part (now (p .entry)) at 3) ⌝ }
+{
+    let day = wide(p[at]) + 256 * (wide(p[at + 1]) + 256 * wide(p[at + 2]));
+    if day < first {
+        return false;
+    }
+    day <= last
+}
+
+fn zone_lawful(p: &[u8], at: usize) -> bool
+    requires { ⌜ at + 2 ≤ length (now p) ⌝ }
+    ensures { λ r. ⌜ r ≡ zoneLawful (part (now (p .entry)) at 2) ⌝ }
+{
+    let zone = wide(p[at]) + 256 * wide(p[at + 1]);
+    if zone <= 840 {
+        return true;
+    }
+    64696 <= zone
+}
+
+fn stamp_lawful(low: usize, p: &[u8]) -> bool
+    ensures { λ r. ⌜ r ≡ lawful (Shape.Stamp low) (now (p .entry)) ⌝ }
+{
+    if p.len() == 8 {
+        return wide(p[0]) % 4 == low;
+    }
+    false
+}
+
+fn date_lawful(first: usize, last: usize, p: &[u8]) -> bool
+    ensures { λ r. ⌜ r ≡ lawful (Shape.Date first last) (now (p .entry)) ⌝ }
+{
+    if p.len() == 3 {
+        return day_within(first, last, p, 0);
+    }
+    false
+}
+
+// A time with `more` bytes after it, of which the first three are its date.
+fn time_lawful(more: usize, first: usize, last: usize, p: &[u8]) -> bool
+    requires { ⌜ (3 ≤ more) × (more ≤ 5) ⌝ }
+    ensures { λ r. ⌜ r ≡ timeLawful more first last (now (p .entry)) ⌝ }
+{
+    if p.len() == 0 {
+        return false;
+    }
+    let precision = p[0];
+    if 7 < precision {
+        return false;
+    }
+    let day = 1 + time_bytes(precision);
+    if p.len() == day + more {
+        return day_within(first, last, p, day);
+    }
+    false
+}
+
+fn zoned_lawful(first: usize, last: usize, p: &[u8]) -> bool
+    ensures { λ r. ⌜ r ≡ zonedLawful first last (now (p .entry)) ⌝ }
+{
+    if time_lawful(5, first, last, p) {
+        return zone_lawful(p, p.len() - 2);
+    }
+    false
+}
+
+// Whether a payload obeys the rules of its shape, its size among them.
+pub fn obeys(shape: Shape, p: &[u8]) -> bool
+    ensures { λ r. ⌜ r ≡ lawful shape (now (p .entry)) ⌝ }
+{
+    match shape {
+        Shape::Nothing => p.len() == 0,
+        Shape::Fixed(size) => p.len() == size,
+        Shape::Text(_) => p.len() % 2 == 0,
+        Shape::Blob(_) => true,
+        Shape::CodePage(_) => 4 <= p.len(),
+        Shape::Decimal => decimal_lawful(p),
+        Shape::Qname => false,
+        Shape::Stamp(low) => stamp_lawful(low, p),
+        Shape::Date { first, last } => date_lawful(first, last, p),
+        Shape::Time { first, last } => time_lawful(3, first, last, p),
+        Shape::ZonedTime { first, last } => zoned_lawful(first, last, p),
+    }
+}
+
+// What the token at a place carries: where its payload lies, or a qname's number, or the refusal.
+pub fn read(shape: Shape, doc: &[u8], at: usize) -> Field
+    requires { ⌜ at < length (now doc) ⌝ }
+    ensures { λ r. ⌜ (r ≡ fieldAt shape (now (doc .entry)) at) × Inside (length (now (doc .entry))) at r ⌝ }
+{
+    match extent_at(shape, doc, at) {
+        Field::Refused { number, place } => Field::Refused { number, place },
+        Field::Reference { number, next } => Field::Reference { number, next },
+        Field::Payload { place, size } => {
+            let end = place + size;
+            if obeys(shape, &doc[place..end]) {
+                Field::Payload { place, size }
+            } else {
+                Field::Refused {
+                    number: token::BAD_VALUE,
+                    place: at,
+                }
+            }
+        }
+    }
+}
