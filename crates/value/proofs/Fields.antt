@@ -17,7 +17,9 @@ use Rattle.number.specs.declared.Number.{Number}
 use Rattle.number.specs.declared.Number.the-variants as number
 use Rattle.number.proofs.Within.{number-within}
 use Rattle.value.specs.Rules.{decimalSize, timeBytes, lawful}
-use Rattle.value.specs.Fields.{needed, textAfter, blobAfter, decimalAfter, timeField, qnameAfter, extentAt, ruled, fieldAt, Inside}
+use Rattle.value.specs.declared.Text as declared
+use Rattle.value.specs.declared.Text.the-variants as text
+use Rattle.value.specs.Fields.{needed, textAfter, textAt, textPayload, Lies, Halved, blobAfter, decimalAfter, timeField, qnameAfter, extentAt, ruled, fieldAt, Inside}
 use Rattle.value.specs.declared.Field.{Field}
 use Rattle.value.specs.declared.Field.the-variants.{Payload, Reference, Refused}
 
@@ -36,7 +38,8 @@ module _ (doc : List ℕ) (place size : ℕ) where
       cond-if (Inside (length doc) at) (leb (place + size) (length doc)) _ _ (λ t. (h, leb-true _ _ t)) (λ t. tt)
 
 module _ (doc : List ℕ) (at : ℕ) {r n : Number} (most : ℕ) (place : ℕ) (e : r ≡ numberAt most doc place) (g : r ≡ n) where
-  pub text-on : textAfter doc n ≡ textAfter doc (numberAt most doc place)
+  pub text-on : textAfter doc n ≡ textAt most doc place
+  unfolding textAt
   text-on = ap (textAfter doc) (sym g ∙ e)
 
   pub blob-on : blobAfter doc n ≡ blobAfter doc (numberAt most doc place)
@@ -47,6 +50,13 @@ module _ (doc : List ℕ) (at : ℕ) {r n : Number} (most : ℕ) (place : ℕ) (
 
   pub qname-on : qnameAfter n ≡ qnameAfter (numberAt most doc place)
   qname-on = ap qnameAfter (sym g ∙ e)
+
+-- a text's units, there or not
+pub text-there : (doc : List ℕ) (units next : ℕ) → next + 2 * units ≤ length doc → text.Is next units ≡ textAfter doc (number.Is units next)
+text-there doc units next h = simp (tests, h)
+
+pub text-short : (doc : List ℕ) (units next : ℕ) → length doc < next + 2 * units → text.Refused missing (length doc) ≡ textAfter doc (number.Is units next)
+text-short doc units next h = simp (tests, h)
 
 -- a decimal's length, judged
 pub decimal-sized : (doc : List ℕ) (at size next : ℕ) → decimalSize size ≡ true → needed doc next size ≡ decimalAfter doc at (number.Is size next)
@@ -79,9 +89,29 @@ module _ (doc : List ℕ) (at more : ℕ) where
 
 -- ---- inside the document
 
-text-inside : (doc : List ℕ) (at : ℕ) (n : Number) → Within (length doc) (at + 1) n → Inside (length doc) at (textAfter doc n)
-text-inside doc at (number.Is units next) h = needed-inside doc next (2 * units) at (omega arith)
-text-inside doc at (number.Refused number place) h = tt
+pub text-lies : (most : ℕ) (doc : List ℕ) (at : ℕ) → Lies (length doc) at (textAt most doc at)
+unfolding textAt
+text-lies most doc at = go (numberAt most doc at) (number-within most doc at)
+  where
+    go : (n : Number) → Within (length doc) at n → Lies (length doc) at (textAfter doc n)
+    go (number.Is units next) h =
+        cond-if (Lies (length doc) at) (leb (next + 2 * units) (length doc)) _ _ (λ t. (h .0, leb-true _ _ t, h .2)) (λ t. tt)
+    go (number.Refused number place) h = tt
+
+pub is-lies : (size at : ℕ) {r : declared.Text} {place units : ℕ} → r ≡ text.Is place units → Lies size at r
+    → (at < place) × (place + 2 * units ≤ size) × (units ≤ largest)
+is-lies size at e h = subst (λ (x : declared.Text). Lies size at x) e h
+
+pub payload-inside : (size at : ℕ) {r : Field} {place n : ℕ} → r ≡ Payload place n → Inside size at r → (at < place) × (place + n ≤ size)
+payload-inside size at e h = subst (λ (x : Field). Inside size at x) e h
+
+pub lies-halved : (size at : ℕ) (t : declared.Text) → Lies size at t → Halved t
+lies-halved size at (text.Is place units) h = h .2
+lies-halved size at (text.Refused number place) h = tt
+
+text-inside : (size at : ℕ) (t : declared.Text) → Lies size (at + 1) t → Inside size at (textPayload t)
+text-inside size at (text.Is place units) h = omega arith
+text-inside size at (text.Refused number place) h = tt
 
 blob-inside : (doc : List ℕ) (at : ℕ) (n : Number) → Within (length doc) (at + 1) n → Inside (length doc) at (blobAfter doc n)
 blob-inside doc at (number.Is size next) h = needed-inside doc next size at (omega arith)
@@ -100,7 +130,7 @@ pub extent-inside : (shape : Shape) (doc : List ℕ) (at : ℕ) → Inside (leng
 unfolding extentAt
 extent-inside Nothing doc at = needed-inside doc (at + 1) 0 at (omega arith)
 extent-inside (Fixed size) doc at = needed-inside doc (at + 1) size at (omega arith)
-extent-inside (Text most) doc at = text-inside doc at (numberAt most doc (at + 1)) (number-within most doc (at + 1))
+extent-inside (Text most) doc at = text-inside (length doc) at (textAt most doc (at + 1)) (text-lies most doc (at + 1))
 extent-inside (Blob most) doc at = blob-inside doc at (numberAt most doc (at + 1)) (number-within most doc (at + 1))
 extent-inside (CodePage most) doc at = blob-inside doc at (numberAt most doc (at + 1)) (number-within most doc (at + 1))
 extent-inside Decimal doc at = decimal-inside doc at (numberAt 5 doc (at + 1)) (number-within 5 doc (at + 1))

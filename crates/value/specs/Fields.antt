@@ -12,6 +12,8 @@ use Rattle.number.specs.Number.{numberAt}
 use Rattle.number.specs.declared.Number.{Number}
 use Rattle.number.specs.declared.Number.the-variants as number
 use Rattle.value.specs.Rules.{decimalSize, timeBytes, lawful}
+use Rattle.value.specs.declared.Text as declared
+use Rattle.value.specs.declared.Text.the-variants as text
 use Rattle.value.specs.declared.Field.{Field}
 use Rattle.value.specs.declared.Field.the-variants.{Payload, Reference, Refused}
 
@@ -19,10 +21,19 @@ use Rattle.value.specs.declared.Field.the-variants.{Payload, Reference, 
 unfoldable pub needed : List ℕ → ℕ → ℕ → Field
 needed doc place size = cond (leb (place + size) (length doc)) (Payload place size) (Refused missing (length doc))
 
--- after a length in 16-bit units
-abbrev pub textAfter : List ℕ → Number → Field
-textAfter doc (number.Is units next) = needed doc next (2 * units)
-textAfter doc (number.Refused number place) = Refused number place
+-- a text: its length in 16-bit units, then that many units
+abbrev pub textAfter : List ℕ → Number → declared.Text
+textAfter doc (number.Is units next) = cond (leb (next + 2 * units) (length doc)) (text.Is next units) (text.Refused missing (length doc))
+textAfter doc (number.Refused number place) = text.Refused number place
+
+-- the text whose length stands at a place, in a number of at most `most` bytes: where its units lie, and how many
+unfoldable pub textAt : ℕ → List ℕ → ℕ → declared.Text
+textAt most doc at = textAfter doc (numberAt most doc at)
+
+-- a text as a payload, in bytes
+abbrev pub textPayload : declared.Text → Field
+textPayload (text.Is place units) = Payload place (2 * units)
+textPayload (text.Refused number place) = Refused number place
 
 -- after a length in bytes
 abbrev pub blobAfter : List ℕ → Number → Field
@@ -49,7 +60,7 @@ qnameAfter (number.Refused number place) = Refused number place
 unfoldable pub extentAt : Shape → List ℕ → ℕ → Field
 extentAt Nothing doc at = needed doc (at + 1) 0
 extentAt (Fixed size) doc at = needed doc (at + 1) size
-extentAt (Text most) doc at = textAfter doc (numberAt most doc (at + 1))
+extentAt (Text most) doc at = textPayload (textAt most doc (at + 1))
 extentAt (Blob most) doc at = blobAfter doc (numberAt most doc (at + 1))
 extentAt (CodePage most) doc at = blobAfter doc (numberAt most doc (at + 1))
 extentAt Decimal doc at = decimalAfter doc at (numberAt 5 doc (at + 1))
@@ -70,6 +81,14 @@ unfoldable pub fieldAt : Shape → List ℕ → ℕ → Field
 fieldAt shape doc at = ruled shape doc at (extentAt shape doc at)
 
 -- bounds that a caller needs
+abbrev pub Halved : declared.Text → Type 0
+Halved (text.Is place units) = units ≤ largest
+Halved (text.Refused number place) = Unit
+
+abbrev pub Lies : ℕ → ℕ → declared.Text → Type 0
+Lies size at (text.Is place units) = (at < place) × (place + 2 * units ≤ size) × (units ≤ largest)
+Lies size at (text.Refused number place) = Unit
+
 abbrev pub Inside : ℕ → ℕ → Field → Type 0
 Inside size at (Payload place n) = (at < place) × (place + n ≤ size)
 Inside size at (Reference number next) = (at < next) × (next ≤ size) × (number .0 ≤ largest)

@@ -7,7 +7,7 @@ ghost use lib.ListN.{length};
 ghost use Rattle.lists.specs.Lists.{part, little};
 ghost use Rattle.number.specs.Number.{numberAt};
 ghost use Rattle.value.specs.Rules.{decimalSize, decimalLawful, timeBytes, dayWithin, zoneLawful, timeLawful, zonedLawful, lawful};
-ghost use Rattle.value.specs.Fields.{needed, textAfter, blobAfter, decimalAfter, timeField, qnameAfter, extentAt, fieldAt, Inside};
+ghost use Rattle.value.specs.Fields.{needed, textAt, textPayload, Halved, Lies, blobAfter, decimalAfter, timeField, qnameAfter, extentAt, fieldAt, Inside};
 use number::Number;
 use token::QnameNumber;
 use token::Shape;
@@ -17,6 +17,12 @@ pub enum Field {
     Payload { place: usize, size: usize },
     // the number of a qname, and where the next token starts
     Reference { number: QnameNumber, next: usize },
+    Refused { number: u32, place: usize },
+}
+
+// The units of a text: where they lie, and how many.
+pub enum Text {
+    Is { place: usize, units: usize },
     Refused { number: u32, place: usize },
 }
 
@@ -37,24 +43,38 @@ fn needed_at(doc: &[u8], place: usize, size: usize) -> Field
     }
 }
 
-fn text_at(doc: &[u8], at: usize, most: usize) -> Field
-    ensures { λ r. ⌜ r ≡ textAfter (now (doc .entry)) (numberAt most (now (doc .entry)) at) ⌝ }
+// The text whose length stands at a place, in a number of at most `most` bytes.
+pub fn text_at(doc: &[u8], at: usize, most: usize) -> Text
+    ensures { λ r. ⌜ (r ≡ textAt most (now (doc .entry)) at) × Lies (length (now (doc .entry))) at r ⌝ }
 {
     match number::read(doc, at, most) {
-        Number::Refused { number, place } => Field::Refused { number, place },
+        Number::Refused { number, place } => Text::Refused { number, place },
         Number::Is { value, next } => {
             if value <= (doc.len() - next) / 2 {
-                Field::Payload {
+                Text::Is {
                     place: next,
-                    size: 2 * value,
+                    units: value,
                 }
             } else {
-                Field::Refused {
+                Text::Refused {
                     number: token::MISSING,
                     place: doc.len(),
                 }
             }
         }
+    }
+}
+
+fn text_payload(text: Text) -> Field
+    requires { ⌜ Halved text ⌝ }
+    ensures { λ r. ⌜ r ≡ textPayload text ⌝ }
+{
+    match text {
+        Text::Refused { number, place } => Field::Refused { number, place },
+        Text::Is { place, units } => Field::Payload {
+            place,
+            size: 2 * units,
+        },
     }
 }
 
@@ -153,7 +173,7 @@ fn extent_at(shape: Shape, doc: &[u8], at: usize) -> Field
     match shape {
         Shape::Nothing => needed_at(doc, at + 1, 0),
         Shape::Fixed(size) => needed_at(doc, at + 1, size),
-        Shape::Text(most) => text_at(doc, at + 1, most),
+        Shape::Text(most) => text_payload(text_at(doc, at + 1, most)),
         Shape::Blob(most) => blob_at(doc, at + 1, most),
         Shape::CodePage(most) => blob_at(doc, at + 1, most),
         Shape::Decimal => decimal_at(doc, at),

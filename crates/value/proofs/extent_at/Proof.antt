@@ -1,6 +1,11 @@
 -- `value::extent_at` meets its contract: a function for each shape. Assumes nothing.
 use borrow.Author.Needs.{needs}
 use Rattle.value.specs.Fields.{extentAt}
+use mathlib.Core.Path.{_∙_, ap}
+use Prim.Native.Nat.{_+_}
+use lib.ListN.{length}
+use Rattle.value.proofs.Fields.{lies-halved}
+use Rattle.value.specs.Fields.{textPayload}
 use Rattle.value.proofs.extent_at.Statement.{statement}
 use Rattle.value.proofs.extent_at.Tie as tie
 
@@ -30,6 +35,9 @@ add-text-at c = search needs
 
 text-at-requires : tie.Need-text-at-requires
 text-at-requires c κs = search needs
+
+text-payload-requires : tie.Need-text-payload-requires
+text-payload-requires c κs = lies-halved (length (c .before .before .before .before .before .args .doc .now)) (c .before .before .before .before .before .args .at + 1) (c .text-at .result) (c .text-at .ensures .1)
 
 enum-known-shape-3 : tie.Need-enum-known-shape-3
 enum-known-shape-3 c = search needs
@@ -104,7 +112,7 @@ returns-2 c = rw (c .before .before .shape .given .1) (c .needed-at2 .ensures)
 
 returns-3 : tie.Need-returns-3
 unfolding extentAt
-returns-3 c = rw (c .before .before .shape2 .given .1) (c .text-at .ensures)
+returns-3 c = rw (c .before .before .before .shape2 .given .1) (c .text-payload .ensures ∙ ap textPayload (c .before .text-at .ensures .0))
 
 returns-4 : tie.Need-returns-4
 unfolding extentAt
@@ -151,6 +159,7 @@ extent-at-spec =
     enum-known-shape-2
     add-text-at
     text-at-requires
+    text-payload-requires
     enum-known-shape-3
     add-blob-at
     blob-at-requires
