@@ -1,0 +1,7 @@
+pub mod Stack
+pub mod Known
+pub mod Rows
+pub mod Scopes
+pub mod Keeps
+pub mod Walks
+pub mod Whole

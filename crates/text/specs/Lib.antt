@@ -1,0 +1,4 @@
+pub mod Text
+pub mod Plans
+pub mod Lengths
+pub mod Examples
