@@ -5,3 +5,4 @@ pub mod Scopes
 pub mod Keeps
 pub mod Walks
 pub mod Whole
+pub mod Trace

@@ -1,4 +1,5 @@
 pub mod Rows
 pub mod Machine
 pub mod Contract
+pub mod Events
 pub mod Tables

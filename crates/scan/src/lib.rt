@@ -547,8 +547,7 @@ fn class_step(table: &[u16; 256], class: Class, doc: &[u8], v: View, room: Room,
     let mode = v.mode;
     match class {
         Class::Unknown => refuse_token(v),
-        Class::Value => value_step(table, doc, v, room, token),
-        Class::LaterValue => value_step(table, doc, v, room, token),
+        Class::Value | Class::LaterValue => value_step(table, doc, v, room, token),
         Class::XmlDecl => text_step(doc, v, room, token, Mode::AfterXmlDecl),
         Class::Encoding => refuse_token(v),
         Class::DocType => text_step(doc, v, room, token, Mode::AfterDocType),

@@ -1,0 +1,109 @@
+// Runs reading into small tables: each line of standard input is a document in hexadecimal and the lengths of three
+// tables. It is written again, followed by what reading answers and by the rows; `changed` where a number past the rows
+// is no longer what stood there.
+ghost use mathlib.Core.Path.{_≡_};
+ghost use Prim.Native.Nat.{_+_, _≤_, _<_};
+ghost use lib.ListN.{length};
+use libc::STDOUT_FILENO;
+use reader::Answer;
+
+const MARK: u32 = 2779096485;
+
+// Whether a number from `from` on is not the mark.
+fn changed(table: &[u32], from: usize) -> bool {
+    let mut at = from;
+    while at < table.len() {
+        if table[at] != MARK {
+            return true;
+        }
+        at += 1;
+    }
+    false
+}
+
+fn report_change(table: &[u32], from: usize) {
+    if changed(table, from) {
+        io::write_all(STDOUT_FILENO, b"changed\n");
+    }
+}
+
+fn least(a: usize, b: usize) -> usize
+    ensures { λ r. ⌜ (r ≤ a) × (r ≤ b) ⌝ }
+{
+    if a < b { a } else { b }
+}
+
+// Reads into the front of the tables: so many numbers of each are lent.
+fn read_front(
+    doc: &[u8],
+    names: &mut [u32],
+    qnames: &mut [u32],
+    events: &mut [u32],
+    n: usize,
+    q: usize,
+    e: usize,
+) -> Answer
+    requires { ⌜ (n ≤ length (now names)) × (q ≤ length (now qnames)) × (e ≤ length (now events)) ⌝ }
+{
+    reader::read(doc, &mut names[..n], &mut qnames[..q], &mut events[..e])
+}
+
+// Reads into the front of three tables of marks, and writes what came out.
+fn read_into(doc: &[u8], n: usize, q: usize, e: usize) {
+    let mut names = [MARK; 64];
+    let mut qnames = [MARK; 64];
+    let mut events = [MARK; 512];
+    let a = read_front(
+        doc,
+        &mut names,
+        &mut qnames,
+        &mut events,
+        least(n, 64),
+        least(q, 64),
+        least(e, 512),
+    );
+    report::write_answer(a);
+    report::write_rows(&names, &qnames, &events, a);
+    report_change(&names, 2 * least(a.names, 1024));
+    report_change(&qnames, 3 * least(a.qnames, 1024));
+    report_change(&events, 4 * least(a.events, 4096));
+}
+
+fn skip_space(line: &[u8], at: usize) -> usize
+    requires { ⌜ at ≤ length (now line) ⌝ }
+    ensures { λ r. ⌜ (at ≤ r) × (r ≤ length (now (line .entry))) ⌝ }
+{
+    if at < line.len() { at + 1 } else { at }
+}
+
+fn case(line: &[u8]) {
+    let mut doc = [0u8; 4096];
+    let a = cases::word_end(line, 0);
+    let size = cases::bytes(&line[..a], &mut doc);
+    let b = skip_space(line, a);
+    let c = cases::word_end(line, b);
+    let d = skip_space(line, c);
+    let e = cases::word_end(line, d);
+    let f = skip_space(line, e);
+    let n = cases::decimal(&line[b..c]);
+    let q = cases::decimal(&line[d..e]);
+    let v = cases::decimal(&line[f..]);
+    io::write_all(STDOUT_FILENO, line);
+    io::write_all(STDOUT_FILENO, b"\n");
+    read_into(&doc[..size], n, q, v);
+}
+
+fn run(text: &[u8]) {
+    let mut at = 0;
+    while at < text.len() {
+        let end = cases::line_end(text, at);
+        case(&text[at..end]);
+        at = end + 1;
+    }
+}
+
+fn main() {
+    let mut text = io::large_buffer();
+    let size = io::read_full(libc::STDIN_FILENO, &mut text);
+    run(&text[..size]);
+}
