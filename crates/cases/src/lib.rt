@@ -93,3 +93,28 @@ pub fn decimal(word: &[u8]) -> usize
     }
     value
 }
+
+// The number that an argument of the program spells.
+pub fn argument(i: usize) -> usize
+    ensures { λ r. ⌜ r ≤ 99999999 ⌝ }
+{
+    let mut word = io::buffer();
+    let length = os::arg(i, &mut word);
+    decimal(&word[..length])
+}
+
+// Reads the file that an argument of the program names; how many bytes it has, as far as the buffer holds them.
+pub fn load(i: usize, buffer: &mut [u8]) -> usize
+    ensures { λ r. ⌜ (r ≤ length (now (buffer .exit))) × (length (now (buffer .exit)) ≡ length (now (buffer .entry))) ⌝ }
+{
+    let mut path = io::buffer();
+    let length = os::arg(i, &mut path);
+    let file = os::open_read(&path[..length]);
+    if file < 0 {
+        os::fail(&path[..length]);
+        return 0;
+    }
+    let size = io::read_full(file, buffer);
+    libc::close(file);
+    size
+}

@@ -6,3 +6,11 @@ pub mod Keeps
 pub mod Walks
 pub mod Whole
 pub mod Trace
+pub mod Refusals
+pub mod Found
+pub mod Readings
+pub mod Codes
+pub mod Facts
+pub mod Checks
+pub mod Outside
+pub mod Balance

@@ -17,8 +17,8 @@ array-share-prefix-doc c = search needs
 slice-aggregate-repeat : tie.Need-slice-aggregate-repeat
 slice-aggregate-repeat c = simp length-take (omega arith)
 
-times-requires : tie.Need-times-requires
-times-requires c κs = search needs
+argument-requires : tie.Need-argument-requires
+argument-requires c κs = search needs
 
 repeat-requires : tie.Need-repeat-requires
 repeat-requires c κs = search needs
@@ -43,7 +43,7 @@ main-spec =
     load-requires
     array-share-prefix-doc
     slice-aggregate-repeat
-    times-requires
+    argument-requires
     repeat-requires
     print-decimal-requires
     slice-aggregate-write-all
