@@ -225,7 +225,7 @@ module _ (doc : List ℕ) (s : State) (i : Sound doc s) where
       (omega arith) (known-here elements)
 
 module _ (doc : List ℕ) (room : Room) (s : State) (i : Sound doc s) where
-  sound-step : {x : Step} → Goes x → Fine (length doc) (view s) room x → Found doc (view s) room x → Sound doc (apply s x)
+  pub sound-step : {x : Step} → Goes x → Fine (length doc) (view s) room x → Found doc (view s) room x → Sound doc (apply s x)
   sound-step g f (found.stop n) = absurd g
   sound-step g f (found.ended l d e c) = absurd g
   sound-step g f (found.name-def {place = place} {units = units} t e r) = sound-name doc s i _ place units _ (omega arith) (f .2)
@@ -273,7 +273,7 @@ module _ (doc : List ℕ) (room : Room) (s : State) (i : Sound doc s) where
 -- ---- a reading
 
 -- no row, nothing known
-sound-none : (doc : List ℕ) (version at : ℕ) → Sound doc (started version at)
+pub sound-none : (doc : List ℕ) (version at : ℕ) → Sound doc (started version at)
 sound-none doc version at =
     record {
       rows = record { names = facts.none; qnames = facts.none; events = facts.none };

@@ -11,6 +11,7 @@ pub mod Found
 pub mod Readings
 pub mod Codes
 pub mod Facts
+pub mod Earlier
 pub mod Checks
 pub mod Outside
 pub mod Balance
