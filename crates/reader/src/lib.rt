@@ -503,9 +503,9 @@ fn room_of(names: usize, qnames: usize, events: usize) -> Room
     ensures { λ r. ⌜ r ≡ roomIn names qnames events ⌝ }
 {
     Room {
-        names: least(names / 2, token::NAME_ROWS),
-        qnames: least(qnames / 3, token::QNAME_ROWS),
-        events: least(events / 4, token::EVENT_ROWS),
+        names: least(names / token::NAME_WIDTH, token::NAME_ROWS),
+        qnames: least(qnames / token::QNAME_WIDTH, token::QNAME_ROWS),
+        events: least(events / token::EVENT_WIDTH, token::EVENT_ROWS),
     }
 }
 
