@@ -82,7 +82,7 @@ all-found test code (t ∷ ts) u h =
     cond-if (λ (x : Token). test x ≡ true) (eqb code (t .code)) t (find code ts) (λ e. and-left (test t) _ h)
     (λ e. all-found test code ts u (and-right (test t) _ h))
 
-find-code : (code : ℕ) (ts : List Token) → find code ts .code ≡ code
+pub find-code : (code : ℕ) (ts : List Token) → find code ts .code ≡ code
 find-code code [] = refl
 find-code code (t ∷ ts) =
     cond-if (λ (x : Token). x .code ≡ code) (eqb code (t .code)) t (find code ts) (λ e. sym (eqb-true code (t .code) e)) (λ e. find-code code ts)

@@ -1,0 +1,12 @@
+pub mod Cases
+pub mod Atomic
+pub mod Leaves
+pub mod Rest
+pub mod Payloads
+pub mod Sound
+pub mod Steps
+pub mod Complete
+pub mod Ends
+pub mod Unique
+pub mod Exact
+pub mod Derived
