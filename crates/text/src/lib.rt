@@ -249,12 +249,12 @@ fn show_base64(p: &[u8], buffer: &mut [u8]) -> Shown
     requires { ⌜ length (now p) ≤ 65536 ⌝ }
     ensures { λ r. ⌜ Lays (base64 (now (p .entry))) (now (buffer .entry)) (now (buffer .exit)) r ⌝ }
 {
-    let need = (p.len() + 2) / 3 * 8;
-    if buffer.len() < need {
-        return Shown::Short(need);
+    let size = (p.len() + 2) / 3 * 8;
+    if buffer.len() < size {
+        return Shown::Short(size);
     }
     blobtext::base64_into(p, buffer);
-    Shown::Made(need)
+    Shown::Made(size)
 }
 
 // Shows the text of a token's payload: in the buffer, unless the payload itself is the text. A refusal writes nothing.

@@ -4,11 +4,11 @@ use Rattle.text.proofs.Laid.{lays-short, lays-made, need-base64}
 use Rattle.text.proofs.show_base64.Statement.{statement}
 use Rattle.text.proofs.show_base64.Tie as tie
 
-add-need : tie.Need-add-need
-add-need c = search needs
+add-size : tie.Need-add-size
+add-size c = search needs
 
-mul-need : tie.Need-mul-need
-mul-need c = search needs
+mul-size : tie.Need-mul-size
+mul-size c = search needs
 
 returns : tie.Need-returns
 returns c = lays-short _ _ (need-base64 (c .before .before .before .args .p .now)) (c .if1 .taken)
@@ -26,4 +26,4 @@ returns-2 c =
 
 pub show-base64-spec : {M : Type 1} → statement M
 show-base64-spec =
-    tie.close (tie.spec add-need mul-need returns base64-into-requires same-length returns-2)
+    tie.close (tie.spec add-size mul-size returns base64-into-requires same-length returns-2)

@@ -1,0 +1,11 @@
+pub mod Lists
+pub mod Written
+pub mod Modes
+pub mod Texts
+pub mod Scopes
+pub mod Define
+pub mod Follow
+pub mod Turns
+pub mod Again
+pub mod Reread
+pub mod Rewriting

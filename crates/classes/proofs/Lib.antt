@@ -1,0 +1,7 @@
+pub mod Tables
+pub mod Classes
+pub mod Texts
+pub mod Keys
+pub mod Filled
+pub mod Names
+pub mod Qnames

@@ -1,0 +1,38 @@
+-- Rows with equal texts have one class: the number of the first row with that text, and 0 for the empty text. So texts are
+-- compared once for each table, and classes afterwards.
+use Prim.Native.Nat.{ℕ, _+_, _*_, _%_}
+use mathlib.Core.List.{List, [], _∷_, map}
+use Rattle.lists.specs.Lists.{part}
+use Rattle.reader.specs.Rows.{NameRow, QnameRow}
+use Rattle.reader.specs.Events.{nameText}
+use Rattle.form.specs.Places.{Triple, triple, numberOf, qnumberOf}
+
+-- the texts of rows of names
+abbrev pub rowText : List ℕ → NameRow → List ℕ
+rowText doc r = part doc (r .place) (2 * r .units)
+
+unfoldable pub textsOf : List ℕ → List NameRow → List (List ℕ)
+textsOf doc rows = map (rowText doc) rows
+
+-- the class of each row of names
+unfoldable pub nameClasses : List ℕ → List NameRow → List ℕ
+nameClasses doc rows = map (numberOf (textsOf doc rows)) (textsOf doc rows)
+
+-- the three texts of a row of qnames
+abbrev pub tripleOf : List ℕ → List NameRow → QnameRow → Triple
+tripleOf doc names q = triple (nameText doc names (q .uri)) (nameText doc names (q .prefix)) (nameText doc names (q .local))
+
+unfoldable pub triplesOf : List ℕ → List NameRow → List QnameRow → List Triple
+triplesOf doc names rows = map (tripleOf doc names) rows
+
+-- the class of each row of qnames
+unfoldable pub qnameClasses : List ℕ → List NameRow → List QnameRow → List ℕ
+qnameClasses doc names rows = map (qnumberOf (triplesOf doc names rows)) (triplesOf doc names rows)
+
+-- a hash of some bytes, folded from the left: unequal hashes mean unequal texts
+abbrev pub hashFrom : ℕ → List ℕ → ℕ
+hashFrom h [] = h
+hashFrom h (b ∷ l) = hashFrom ((h * 31 + b) % 4294967296) l
+
+abbrev pub hashOf : List ℕ → ℕ
+hashOf l = hashFrom 0 l

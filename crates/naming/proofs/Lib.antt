@@ -1,0 +1,5 @@
+pub mod Marks
+pub mod Names
+pub mod Qnames
+pub mod Layers
+pub mod Steps

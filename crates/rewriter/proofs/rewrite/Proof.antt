@@ -1,0 +1,72 @@
+-- `rewriter::rewrite` meets its contract. Assumes nothing.
+use Rattle.rewriter.proofs.Forms.{not-read, names-asks, qnames-asks, prepared, version-few, formed}
+use Prim.Native.Nat.{ℕ}
+use lib.ListN.{replicate, length-replicate}
+use borrow.Author.Needs.{needs}
+use Rattle.rewriter.proofs.rewrite.Statement.{statement}
+use Rattle.rewriter.proofs.rewrite.Tie as tie
+
+read-requires : tie.Need-read-requires
+read-requires c κs = search needs
+
+refused-requires : tie.Need-refused-requires
+refused-requires c κs = search needs
+
+same-length : tie.Need-same-length
+same-length c = search needs
+
+same-length-2 : tie.Need-same-length-2
+same-length-2 c = search needs
+
+same-length-3 : tie.Need-same-length-3
+same-length-3 c = search needs
+
+returns : tie.Need-returns
+returns c = let a = c .before .before .before .before .before .before .before .before .before .before .before .before .before .before .before .before .before .before .args in not-read (a .doc .now) (c .before .before .before .before .before .before .before .before .before .read .ensures) (a .out .now) (c .before .if1 .taken) (c .refused .ensures)
+
+table-requires : tie.Need-table-requires
+table-requires c κs = search needs
+
+name-classes-requires : tie.Need-name-classes-requires
+name-classes-requires c κs = let a = c .before .before .before .before .before .before .before .before .before .before .before .before .before .before .before .before .before .before .before .before .args in names-asks (a .doc .now) (c .before .before .before .before .before .before .before .before .before .before .before .read .ensures) (c .before .before .before .if1 .left) (replicate {A = ℕ} 1024 0) (length-replicate {A = ℕ} 1024 0)
+
+qname-classes-requires : tie.Need-qname-classes-requires
+qname-classes-requires c κs = let a = c .before .before .before .before .before .before .before .before .before .before .before .before .before .before .before .before .before .before .before .before .before .before .before .before .before .args in let n = c .before .before .before .before .name-classes .ensures in qnames-asks (a .doc .now) (c .before .before .before .before .before .before .before .before .before .before .before .before .before .before .before .before .read .ensures) (c .before .before .before .before .before .before .before .before .if1 .left) _ (replicate {A = ℕ} 1024 0) (n .1) (length-replicate {A = ℕ} 1024 0) (n .0)
+
+write-form-requires : tie.Need-write-form-requires
+write-form-requires c κs = let a = c .before .before .before .before .before .before .before .before .before .before .before .before .before .before .before .before .before .before .before .before .before .before .before .before .before .before .before .before .before .before .before .before .before .args in let n = c .before .before .before .before .before .before .before .before .before .before .before .before .name-classes .ensures in let q = c .before .before .before .before .before .before .before .qname-classes .ensures in let h = c .before .before .before .before .before .before .before .before .before .before .before .before .before .before .before .before .before .before .before .before .before .before .before .before .read .ensures in let ok = c .before .before .before .before .before .before .before .before .before .before .before .before .before .before .before .before .if1 .left in (c .before .before .before .before .before .before .before .before .before .before .before .before .before .before .before .table .ensures, prepared (a .doc .now) h ok _ _ (n .1) (q .1) (n .0) (q .0), version-few (a .doc .now) h ok)
+
+same-length-4 : tie.Need-same-length-4
+same-length-4 c = c .before .before .before .before .before .before .before .before .before .before .before .before .before .before .before .before .before .before .before .before .before .before .before .before .before .before .before .read .kept .1 .0
+
+same-length-5 : tie.Need-same-length-5
+same-length-5 c = c .before .before .before .before .before .before .before .before .before .before .before .before .before .before .before .before .before .before .before .before .before .before .before .before .before .before .before .read .kept .1 .1 .0
+
+same-length-6 : tie.Need-same-length-6
+same-length-6 c = c .before .before .before .before .before .before .before .before .before .before .before .before .before .before .before .before .before .before .before .before .before .before .before .before .before .before .before .read .kept .1 .1 .1 .0
+
+same-length-7 : tie.Need-same-length-7
+same-length-7 c = search needs
+
+returns-2 : tie.Need-returns-2
+returns-2 c = let a = c .before .before .before .before .before .before .before .before .before .before .before .before .before .before .before .before .before .before .before .before .before .before .before .before .before .before .before .before .before .before .before .before .before .before .before .before .args in formed (a .doc .now) (c .before .before .before .before .before .before .before .before .before .before .before .before .before .before .before .before .before .before .before .before .before .before .before .before .before .before .before .read .ensures) (c .before .before .before .before .before .before .before .before .before .before .before .before .before .before .before .before .before .before .before .if1 .left) _ _ (a .out .now) _ (c .before .before .write-form .ensures)
+
+pub rewrite-spec : {M : Type 1} → statement M
+rewrite-spec =
+    tie.close
+    (tie.spec
+    read-requires
+    refused-requires
+    same-length
+    same-length-2
+    same-length-3
+    returns
+    table-requires
+    name-classes-requires
+    qname-classes-requires
+    write-form-requires
+    same-length-4
+    same-length-5
+    same-length-6
+    same-length-7
+    returns-2)
