@@ -1,0 +1,64 @@
+-- `list_speed::repeat` is safe and ends. Assumes nothing.
+use borrow.Author.Needs.{needs}
+use Prim.Native.Nat.{ℕ, _-_}
+use mathlib.Core.Path.{_≡_}
+use lib.ListN.{length, length-replicate}
+use Rattle.list_speed.proofs.repeat.Statement.{statement}
+use Rattle.list_speed.proofs.repeat.Tie as tie
+
+abbrev Inv-loop : tie.InvT-loop
+Inv-loop doc count names₀ qnames₀ events₀ pairs₀ sum₀ i₀ names qnames events pairs sum i = (length names ≡ 2048) × (length qnames ≡ 3072) × (length events ≡ 16384) × (length pairs ≡ 16384)
+
+abbrev μ-loop : tie.MeasureT-loop
+μ-loop doc count names₀ qnames₀ events₀ pairs₀ sum₀ i₀ names qnames events pairs sum i = count - i
+
+loop-holds : tie.Need-loop-holds Inv-loop μ-loop
+loop-holds c = (length-replicate {A = ℕ} 2048 0, length-replicate {A = ℕ} 3072 0, length-replicate {A = ℕ} 16384 0, length-replicate {A = ℕ} 16384 0)
+
+slice-aggregate-list : tie.Need-slice-aggregate-list Inv-loop μ-loop
+slice-aggregate-list c = search needs
+
+slice-aggregate-list-2 : tie.Need-slice-aggregate-list-2 Inv-loop μ-loop
+slice-aggregate-list-2 c = search needs
+
+slice-aggregate-list-3 : tie.Need-slice-aggregate-list-3 Inv-loop μ-loop
+slice-aggregate-list-3 c = search needs
+
+slice-aggregate-list-4 : tie.Need-slice-aggregate-list-4 Inv-loop μ-loop
+slice-aggregate-list-4 c = search needs
+
+list-requires : tie.Need-list-requires Inv-loop μ-loop
+list-requires c κs = search needs
+
+wrapping-add-u64-requires : tie.Need-wrapping-add-u64-requires Inv-loop μ-loop
+wrapping-add-u64-requires c κs = search needs
+
+add-i : tie.Need-add-i Inv-loop μ-loop
+add-i c = search needs
+
+loop-less : tie.Need-loop-less Inv-loop μ-loop
+loop-less c = search needs
+
+loop-again : tie.Need-loop-again Inv-loop μ-loop
+loop-again c = search needs
+
+returns : tie.Need-returns Inv-loop μ-loop
+returns c = search needs
+
+pub repeat-spec : {M : Type 1} → statement M
+repeat-spec =
+    tie.close
+    (tie.spec
+    Inv-loop
+    μ-loop
+    loop-holds
+    slice-aggregate-list
+    slice-aggregate-list-2
+    slice-aggregate-list-3
+    slice-aggregate-list-4
+    list-requires
+    wrapping-add-u64-requires
+    add-i
+    loop-less
+    loop-again
+    returns)

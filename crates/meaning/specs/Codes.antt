@@ -1,0 +1,59 @@
+-- Symbols as numbers, by which the program compares meanings. A text of names stands as its class, a number up to 1,024.
+use Prim.Native.Nat.{ℕ, _+_, _*_, _≤_, _<_}
+use mathlib.Core.Path.{_≡_}
+use mathlib.Core.List.{List, [], _∷_, _++_, map}
+use lib.ListN.{length}
+use Rattle.lists.specs.Lists.{Bytes}
+use Rattle.meaning.specs.Meaning.{Symbol, unit, opening, ending, attribute, closing, value, qname}
+
+-- a mark: its kind, below 8, and its payload; a unit is below every mark
+unfoldable pub mark : ℕ → ℕ → ℕ
+mark kind payload = 65536 + 8 * payload + kind
+
+-- the payload of a mark with URI and local texts
+abbrev pub both : (List ℕ → ℕ) → List ℕ → List ℕ → ℕ
+both cls uri local = 1025 * cls uri + cls local
+
+-- one number for a symbol, and one more for each byte of a value without text
+abbrev pub codeOf : (List ℕ → ℕ) → Symbol → List ℕ
+codeOf cls (unit u) = u ∷ []
+codeOf cls (opening uri local) = mark 0 (both cls uri local) ∷ []
+codeOf cls (attribute uri local) = mark 1 (both cls uri local) ∷ []
+codeOf cls (qname uri local) = mark 2 (both cls uri local) ∷ []
+codeOf cls ending = mark 3 0 ∷ []
+codeOf cls closing = mark 4 0 ∷ []
+codeOf cls (value token payload) = mark 5 token ∷ map (mark 6) payload
+
+-- the codes of a meaning, one after the other
+unfoldable pub codesOf : (List ℕ → ℕ) → List Symbol → List ℕ
+codesOf cls [] = []
+codesOf cls (s ∷ l) = codeOf cls s ++ codesOf cls l
+
+-- the count of numbers of a symbol, and of a meaning
+abbrev pub sizeOf : Symbol → ℕ
+sizeOf (unit u) = 1
+sizeOf (opening uri local) = 1
+sizeOf (attribute uri local) = 1
+sizeOf (qname uri local) = 1
+sizeOf ending = 1
+sizeOf closing = 1
+sizeOf (value token payload) = 1 + length payload
+
+unfoldable pub sizesOf : List Symbol → ℕ
+sizesOf [] = 0
+sizesOf (s ∷ l) = sizeOf s + sizesOf l
+
+-- the classes of known texts are at most 1,024, and equal only for equal texts
+pub record Classes (Known : List ℕ → Type 0) (cls : List ℕ → ℕ) : Type 0 where
+  pub small : (t : List ℕ) → Known t → cls t ≤ 1024
+  pub apart : (t u : List ℕ) → Known t → Known u → cls t ≡ cls u → t ≡ u
+
+-- what holds of each symbol of a document whose names' texts are known
+abbrev pub Coded : (List ℕ → Type 0) → Symbol → Type 0
+Coded Known (unit u) = u < 65536
+Coded Known (opening uri local) = Known uri × Known local
+Coded Known (attribute uri local) = Known uri × Known local
+Coded Known (qname uri local) = Known uri × Known local
+Coded Known ending = Unit
+Coded Known closing = Unit
+Coded Known (value token payload) = (token < 256) × Bytes payload

@@ -1,0 +1,208 @@
+-- Records and their meaning (01, "Meaning and canonical form"), from the events with names by text alone. A record is an
+-- element with no element around it, nested documents included; its meaning is a list of marks and text units.
+use Prim.Native.Nat.{ℕ, zero, suc, _-_}
+use mathlib.Core.Bool.{Bool, true, false, cond, _&&_, _||_}
+use mathlib.Core.Option.{Option, none, some}
+use mathlib.Core.List.{List, [], _∷_, _++_, map}
+use lib.Dec.{eqb}
+use lib.ListN.{length, take}
+use Rattle.lists.specs.Lists.{unitsOf}
+use Rattle.reader.specs.Events.{Event, texted, standalone, pi, qnamed, valued, nest, plain}
+use Rattle.text.specs.Text.{textOf}
+
+pub data Symbol : Type 0 where
+  -- a unit of text, of a value or of CDATA
+  unit : ℕ → Symbol
+  -- an element's opening mark with URI and local texts, and its end mark
+  opening : List ℕ → List ℕ → Symbol
+  ending : Symbol
+  -- an attribute's mark with both texts, and its closing mark
+  attribute : List ℕ → List ℕ → Symbol
+  closing : Symbol
+  -- a value without text: its token and payload bytes
+  value : ℕ → List ℕ → Symbol
+  -- XSD-QNAME: URI and local texts
+  qname : List ℕ → List ℕ → Symbol
+
+-- whether an attribute is open, and whether it counts
+pub data Attribute : Type 0 where
+  none-open : Attribute
+  counted : Attribute
+  skipped : Attribute
+
+-- the bytes of "xmlns", and of ":"
+abbrev pub xmlns : List ℕ
+xmlns = 0x78 ∷ 0 ∷ 0x6D ∷ 0 ∷ 0x6C ∷ 0 ∷ 0x6E ∷ 0 ∷ 0x73 ∷ 0 ∷ []
+
+-- equal lists of bytes
+abbrev pub same : List ℕ → List ℕ → Bool
+same [] [] = true
+same [] (y ∷ t) = false
+same (x ∷ s) [] = false
+same (x ∷ s) (y ∷ t) = eqb x y && same s t
+
+-- URI and local are empty, and the prefix is "xmlns" or starts "xmlns:"
+unfoldable pub declares : List ℕ → List ℕ → List ℕ → Bool
+declares uri prefix local =
+    same uri [] && (same local [] && (same prefix xmlns || same (take 12 prefix) (xmlns ++ (0x3A ∷ 0 ∷ []))))
+
+-- the mark that closes an open attribute
+abbrev pub closed : Attribute → List Symbol
+closed none-open = []
+closed counted = closing ∷ []
+closed skipped = []
+
+-- values of a skipped attribute do not count
+abbrev pub unless : Attribute → List Symbol → List Symbol
+unless none-open l = l
+unless counted l = l
+unless skipped l = []
+
+-- a value: its text, or a mark of its own
+abbrev pub shownAs : ℕ → List ℕ → Option (List ℕ) → List Symbol
+shownAs token payload none = value token payload ∷ []
+shownAs token payload (some units) = map unit units
+
+-- ELEMENT, ATTRIBUTE, XSD-QNAME
+unfoldable pub namedSymbols : Attribute → ℕ → List ℕ → List ℕ → List ℕ → List Symbol
+namedSymbols q token uri prefix local =
+    cond (eqb token 0xF8) (opening uri local ∷ [])
+    (cond (eqb token 0xF6) (closed q ++ cond (declares uri prefix local) [] (attribute uri local ∷ [])) (unless q (qname uri local ∷ [])))
+
+-- ENDELEMENT; ENDATTRIBUTES closes the last attribute
+unfoldable pub plainSymbols : Attribute → ℕ → List Symbol
+plainSymbols q token = cond (eqb token 0xF7) (ending ∷ []) (cond (eqb token 0xF5) (closed q) [])
+
+-- what an event inside a record adds to its meaning; nothing else counts
+abbrev pub symbolsOf : Attribute → Event → List Symbol
+symbolsOf q (texted token t) = cond (eqb token 0xF2) (map unit (unitsOf t)) []
+symbolsOf q (standalone b) = []
+symbolsOf q (pi target t) = []
+symbolsOf q (qnamed token uri prefix local) = namedSymbols q token uri prefix local
+symbolsOf q (valued token payload) = unless q (shownAs token payload (textOf token payload))
+symbolsOf q (nest version) = []
+symbolsOf q (plain token) = plainSymbols q token
+
+abbrev pub attributeAfter : Attribute → Event → Attribute
+attributeAfter q (texted token t) = q
+attributeAfter q (standalone b) = q
+attributeAfter q (pi target t) = q
+attributeAfter q (qnamed token uri prefix local) = cond (eqb token 0xF6) (cond (declares uri prefix local) skipped counted) q
+attributeAfter q (valued token payload) = q
+attributeAfter q (nest version) = q
+attributeAfter q (plain token) = cond (eqb token 0xF5) none-open q
+
+-- an element opens
+abbrev pub opens : Event → Bool
+opens (texted token t) = false
+opens (standalone b) = false
+opens (pi target t) = false
+opens (qnamed token uri prefix local) = eqb token 0xF8
+opens (valued token payload) = false
+opens (nest version) = false
+opens (plain token) = false
+
+abbrev pub closes : Event → Bool
+closes (texted token t) = false
+closes (standalone b) = false
+closes (pi target t) = false
+closes (qnamed token uri prefix local) = false
+closes (valued token payload) = false
+closes (nest version) = false
+closes (plain token) = eqb token 0xF7
+
+-- elements open after an event, counted across nested documents
+unfoldable pub depthAfter : ℕ → Event → ℕ
+depthAfter depth e = cond (opens e) (suc depth) (cond (closes e) (depth - 1) depth)
+
+-- an event adds to a record where an element is open or opens
+abbrev pub inside : ℕ → Event → Bool
+inside zero e = opens e
+inside (suc depth) e = true
+
+-- a record begins: an element with no element around it
+abbrev pub begins : ℕ → Event → Bool
+begins zero e = opens e
+begins (suc depth) e = false
+
+-- symbols before the first of some pieces, and a new piece before them
+abbrev pub onto : List Symbol → List (List Symbol) → List (List Symbol)
+onto l [] = l ∷ []
+onto l (p ∷ ps) = (l ++ p) ∷ ps
+
+abbrev pub newIf : Bool → List (List Symbol) → List (List Symbol)
+newIf true ps = [] ∷ ps
+newIf false ps = ps
+
+-- the rest of the record that is open, then the records that begin in these events
+unfoldable pub pieces : ℕ → Attribute → List Event → List (List Symbol)
+pieces depth q [] = [] ∷ []
+pieces depth q (e ∷ es) =
+    newIf (begins depth e) (onto (cond (inside depth e) (symbolsOf q e) []) (pieces (depthAfter depth e) (attributeAfter q e) es))
+
+abbrev pub rest : List (List Symbol) → List (List Symbol)
+rest [] = []
+rest (p ∷ ps) = ps
+
+-- the meanings of the records, in the order of their ELEMENT tokens; what stands before the first record is no record
+unfoldable pub meanings : List Event → List (List Symbol)
+meanings es = rest (pieces 0 none-open es)
+
+-- ---- equal meanings
+
+unfoldable pub sameSymbol : Symbol → Symbol → Bool
+sameSymbol (unit a) (unit b) = eqb a b
+sameSymbol (unit a) (opening u l) = false
+sameSymbol (unit a) ending = false
+sameSymbol (unit a) (attribute u l) = false
+sameSymbol (unit a) closing = false
+sameSymbol (unit a) (value t p) = false
+sameSymbol (unit a) (qname u l) = false
+sameSymbol (opening u l) (unit b) = false
+sameSymbol (opening u l) (opening v m) = same u v && same l m
+sameSymbol (opening u l) ending = false
+sameSymbol (opening u l) (attribute v m) = false
+sameSymbol (opening u l) closing = false
+sameSymbol (opening u l) (value t p) = false
+sameSymbol (opening u l) (qname v m) = false
+sameSymbol ending (unit b) = false
+sameSymbol ending (opening v m) = false
+sameSymbol ending ending = true
+sameSymbol ending (attribute v m) = false
+sameSymbol ending closing = false
+sameSymbol ending (value t p) = false
+sameSymbol ending (qname v m) = false
+sameSymbol (attribute u l) (unit b) = false
+sameSymbol (attribute u l) (opening v m) = false
+sameSymbol (attribute u l) ending = false
+sameSymbol (attribute u l) (attribute v m) = same u v && same l m
+sameSymbol (attribute u l) closing = false
+sameSymbol (attribute u l) (value t p) = false
+sameSymbol (attribute u l) (qname v m) = false
+sameSymbol closing (unit b) = false
+sameSymbol closing (opening v m) = false
+sameSymbol closing ending = false
+sameSymbol closing (attribute v m) = false
+sameSymbol closing closing = true
+sameSymbol closing (value t p) = false
+sameSymbol closing (qname v m) = false
+sameSymbol (value t p) (unit b) = false
+sameSymbol (value t p) (opening v m) = false
+sameSymbol (value t p) ending = false
+sameSymbol (value t p) (attribute v m) = false
+sameSymbol (value t p) closing = false
+sameSymbol (value t p) (value s r) = eqb t s && same p r
+sameSymbol (value t p) (qname v m) = false
+sameSymbol (qname u l) (unit b) = false
+sameSymbol (qname u l) (opening v m) = false
+sameSymbol (qname u l) ending = false
+sameSymbol (qname u l) (attribute v m) = false
+sameSymbol (qname u l) closing = false
+sameSymbol (qname u l) (value t p) = false
+sameSymbol (qname u l) (qname v m) = same u v && same l m
+
+abbrev pub sameMeaning : List Symbol → List Symbol → Bool
+sameMeaning [] [] = true
+sameMeaning [] (y ∷ m) = false
+sameMeaning (x ∷ l) [] = false
+sameMeaning (x ∷ l) (y ∷ m) = sameSymbol x y && sameMeaning l m

@@ -1,0 +1,151 @@
+-- Texts and payloads, a step at a time. Assumes nothing.
+use Prim.Native.Nat.{ℕ, suc, _+_, _*_, _≤_, _<_}
+use mathlib.Core.Path.{_≡_, refl, sym, ap, _∙_}
+use mathlib.Core.Bool.{Bool, true, false, _&&_, _||_}
+use mathlib.Core.List.{List, [], _∷_, map}
+use native.Mathlib.Omega.{arith}
+use native.Mathlib.Numerals.{add-one}
+use lib.Dec.{eqb}
+use lib.ListN.{length, getD, take, drop, length-drop, drop-of-length-le, length-take}
+use lib.Seq.{drop-cons}
+use borrow.Author.Tests.{eq-eqb, ne-eqb}
+use Rattle.lists.specs.Lists.{unitsOf}
+use Rattle.text.specs.Text.{textOf}
+use Rattle.text.specs.Plans.{unitsBy, textBy, Means}
+use Rattle.text.specs.declared.Plan.{Plan}
+use Rattle.text.specs.declared.Plan.the-variants.{Nothing, Payload, Number, Boolean, HexDigits, Base64Letters}
+use Rattle.meaning.specs.Meaning.{same, xmlns}
+use Rattle.meaning.specs.Codes.{mark}
+use Rattle.render.specs.Codes.{valueCodes, wayOf, xmlnsColon}
+
+-- ---- units
+
+pub units-step : (s : List ℕ) (i : ℕ) → i + 1 < length s → unitsOf (drop i s) ≡ (getD s i 0 + 256 * getD s (i + 1) 0) ∷ unitsOf (drop (i + 2) s)
+units-step s i h =
+    let a : i < length s = omega arith in
+    let b : suc i < length s = omega arith in
+    let e : i + 1 ≡ suc i = omega arith in
+    let f : i + 2 ≡ suc (suc i) = omega arith in
+    rw (e, f, drop-cons s i 0 a, drop-cons s (suc i) 0 b)
+
+units-short : (l : List ℕ) → length l ≤ 1 → unitsOf l ≡ []
+units-short [] h = refl
+units-short (x ∷ []) h = refl
+units-short (x ∷ y ∷ l) h = absurd (let q : ⊥ = omega arith in q)
+
+pub units-end : (s : List ℕ) (i : ℕ) → length s ≤ i + 1 → unitsOf (drop i s) ≡ []
+units-end s i h = units-short (drop i s) (simp length-drop (omega arith))
+
+pub units-few : (l : List ℕ) → length (unitsOf l) ≤ length l
+units-few [] = omega arith
+units-few (x ∷ []) = omega arith
+units-few (x ∷ y ∷ l) = let i : length (unitsOf l) ≤ length l = units-few l in omega arith
+
+-- ---- marks of bytes
+
+pub bytes-step : (s : List ℕ) (i v : ℕ) → i < length s → v ≡ getD s i 0 → map (mark 6) (drop i s) ≡ (65542 + 8 * v) ∷ map (mark 6) (drop (i + 1) s)
+unfolding mark
+bytes-step s i v h e =
+    let f : 65536 + 8 * getD s i 0 + 6 ≡ 65542 + 8 * v = omega (arith, e) in
+    rw (add-one, drop-cons s i 0 h, f)
+
+pub bytes-end : (s : List ℕ) (i : ℕ) → length s ≤ i → map (mark 6) (drop i s) ≡ []
+bytes-end s i h = rw (drop-of-length-le s h)
+
+-- ---- a list, number by number
+
+pub list-step : (l : List ℕ) (k v n : ℕ) → n ≡ length l → k < n → v ≡ getD l k 0 → drop k l ≡ v ∷ drop (k + 1) l
+list-step l k v n i h e = let g : k < length l = omega arith in rw (add-one, e, drop-cons l k 0 g)
+
+pub list-end : (l : List ℕ) (k n : ℕ) → n ≡ length l → n ≤ k → drop k l ≡ []
+list-end l k n i h = let g : length l ≤ k = omega arith in drop-of-length-le l g
+
+-- ---- the text of a value
+
+module _ (token : ℕ) {p : List ℕ} {own : Bool} {plan : Plan} (m : Means (textOf token p) own p plan) (way : ℕ) (e : way ≡ wayOf plan) where
+  pub way-none : way ≡ 0 → mark 5 token ∷ map (mark 6) p ≡ valueCodes token p (textOf token p)
+  way-none h = rw (m .text-is) (go plan (sym e ∙ h))
+    where
+      go : (q : Plan) → wayOf q ≡ 0 → mark 5 token ∷ map (mark 6) p ≡ valueCodes token p (textBy q p)
+      go Nothing f = refl
+      go Payload f = absurd (let x : ⊥ = omega arith in x)
+      go (Number minus size scale) f = absurd (let x : ⊥ = omega arith in x)
+      go (Boolean b) f = absurd (let x : ⊥ = omega arith in x)
+      go HexDigits f = absurd (let x : ⊥ = omega arith in x)
+      go Base64Letters f = absurd (let x : ⊥ = omega arith in x)
+
+  pub way-own : way ≡ 1 → unitsOf p ≡ valueCodes token p (textOf token p)
+  way-own h = rw (m .text-is) (go plan (sym e ∙ h))
+    where
+      go : (q : Plan) → wayOf q ≡ 1 → unitsOf p ≡ valueCodes token p (textBy q p)
+      go Nothing f = absurd (let x : ⊥ = omega arith in x)
+      go Payload f = refl
+      go (Number minus size scale) f = absurd (let x : ⊥ = omega arith in x)
+      go (Boolean b) f = absurd (let x : ⊥ = omega arith in x)
+      go HexDigits f = absurd (let x : ⊥ = omega arith in x)
+      go Base64Letters f = absurd (let x : ⊥ = omega arith in x)
+
+  pub way-made : (way ≡ 0 → ⊥) → unitsBy plan p ≡ valueCodes token p (textOf token p)
+  way-made h = rw (m .text-is) (go plan (λ z. h (e ∙ z)))
+    where
+      go : (q : Plan) → (wayOf q ≡ 0 → ⊥) → unitsBy q p ≡ valueCodes token p (textBy q p)
+      go Nothing f = absurd (f refl)
+      go Payload f = refl
+      go (Number minus size scale) f = refl
+      go (Boolean b) f = refl
+      go HexDigits f = refl
+      go Base64Letters f = refl
+
+-- ---- equal bytes
+
+module _ (a b : List ℕ) (e : length a ≡ length b) (i : ℕ) where
+  pub same-step : i < length a → getD a i 0 ≡ getD b i 0 → same (drop i a) (drop i b) ≡ same (drop (i + 1) a) (drop (i + 1) b)
+  same-step h f =
+      let g : i < length b = omega arith in
+      let t : eqb (getD a i 0) (getD b i 0) ≡ true = eq-eqb _ _ f in
+      rw (add-one, drop-cons a i 0 h, drop-cons b i 0 g, t)
+
+  pub same-differ : i < length a → (getD a i 0 ≡ getD b i 0 → ⊥) → same (drop i a) (drop i b) ≡ false
+  same-differ h f =
+      let g : i < length b = omega arith in
+      let t : eqb (getD a i 0) (getD b i 0) ≡ false = ne-eqb _ _ f in
+      rw (drop-cons a i 0 h, drop-cons b i 0 g, t)
+
+  pub same-end : length a ≤ i → same (drop i a) (drop i b) ≡ true
+  same-end h =
+      let g : length b ≤ i = omega arith in
+      rw (drop-of-length-le a h, drop-of-length-le b g)
+
+-- lists of different length are not the same
+pub same-long : (a b : List ℕ) → (length a ≡ length b → ⊥) → same a b ≡ false
+same-long [] [] h = absurd (h refl)
+same-long [] (y ∷ b) h = refl
+same-long (x ∷ a) [] h = refl
+same-long (x ∷ a) (y ∷ b) h = go (eqb x y) (same-long a b (λ e. h (ap suc e)))
+  where
+    go : (t : Bool) → same a b ≡ false → (t && same a b) ≡ false
+    go true i = i
+    go false i = refl
+
+or-right : (t : Bool) → (t || false) ≡ t
+or-right true = refl
+or-right false = refl
+
+module _ (t : List ℕ) where
+  pub xmlns-short : length t ≡ 10 → (r : Bool) → r ≡ same t xmlns → r ≡ (same t xmlns || same (take 12 t) xmlnsColon)
+  xmlns-short h r e =
+      let n : length (take 12 t) ≡ 10 = simp length-take (omega arith) in
+      let f : same (take 12 t) xmlnsColon ≡ false = same-long (take 12 t) xmlnsColon (λ x. let q : ⊥ = omega arith in q) in
+      e ∙ rw f (sym (or-right (same t xmlns)))
+
+  pub xmlns-none : (length t ≡ 10 → ⊥) → length t < 12 → false ≡ (same t xmlns || same (take 12 t) xmlnsColon)
+  xmlns-none g h =
+      let n : length (take 12 t) ≡ length t = simp length-take (omega arith) in
+      let f : same (take 12 t) xmlnsColon ≡ false = same-long (take 12 t) xmlnsColon (λ x. let q : ⊥ = omega arith in q) in
+      let i : same t xmlns ≡ false = same-long t xmlns (λ x. let q : ⊥ = omega (arith, g) in q) in
+      rw (i, f)
+
+  pub xmlns-long : (length t ≡ 10 → ⊥) → (r : Bool) → r ≡ same (take 12 t) xmlnsColon → r ≡ (same t xmlns || same (take 12 t) xmlnsColon)
+  xmlns-long g r e =
+      let i : same t xmlns ≡ false = same-long t xmlns (λ x. let q : ⊥ = omega (arith, g) in q) in
+      e ∙ rw i

@@ -1,0 +1,3 @@
+pub mod Render
+pub mod Store
+pub mod Codes

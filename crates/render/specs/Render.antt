@@ -1,0 +1,48 @@
+-- The meanings of all records as numbers, one after the other in one array, with a boundary for each record.
+use Prim.Native.Nat.{ℕ, _+_, _*_, _≤_}
+use mathlib.Core.Path.{_≡_}
+use mathlib.Core.List.{List, map}
+use lib.ListN.{length}
+use Rattle.lists.specs.Lists.{Front}
+use Rattle.reader.specs.Events.{Event, eventOf}
+use Rattle.reader.specs.Facts.{Every, NameFits, QnameFits, Placed}
+use Rattle.form.specs.Places.{numberOf}
+use Rattle.classes.specs.Tables.{nameRowsIn, qnameRowsIn, eventRowsIn}
+use Rattle.classes.specs.Classes.{textsOf, nameClasses}
+use Rattle.meaning.specs.Meaning.{meanings}
+use Rattle.meaning.specs.Codes.{codesOf}
+use Rattle.twins.specs.Parts.{partsOf, Cut}
+
+-- the events of so many rows, names by text
+unfoldable pub eventsIn : List ℕ → List ℕ → List ℕ → List ℕ → ℕ → ℕ → ℕ → List Event
+eventsIn doc names qnames events rows qrows count = map (eventOf doc (nameRowsIn rows names) (qnameRowsIn qrows qnames)) (eventRowsIn count events)
+
+-- the class of a text among those of the rows of names
+abbrev pub classIn : List ℕ → List ℕ → ℕ → List ℕ → ℕ
+classIn doc names rows t = numberOf (textsOf doc (nameRowsIn rows names)) t
+
+-- rows that reading has made of the document, and the classes of the names
+pub record Drawable (doc names qnames events classes : List ℕ) (rows qrows count : ℕ) : Type 0 where
+  pub short : length doc ≤ 65536
+  pub few : rows ≤ 1024
+  pub long : 2 * rows ≤ length names
+  pub qfew : qrows ≤ 1024
+  pub qlong : 3 * qrows ≤ length qnames
+  pub efew : count ≤ 4096
+  pub elong : 4 * count ≤ length events
+  pub names-fit : Every (NameFits (length doc)) (nameRowsIn rows names)
+  pub qnames-fit : Every (QnameFits rows) (qnameRowsIn qrows qnames)
+  pub last : ℕ
+  pub inside : last ≤ length doc
+  pub events-fit : Placed doc rows qrows (eventRowsIn count events) last
+  pub classes-long : length classes ≡ 1024
+  pub classes-are : Front (nameClasses doc (nameRowsIn rows names)) classes
+
+-- so many records; the parts of the array are the codes of their meanings
+pub record Rendered (doc names qnames events : List ℕ) (rows qrows count : ℕ) (syms starts : List ℕ) (n : ℕ) : Type 0 where
+  pub number-is : n ≡ length (meanings (eventsIn doc names qnames events rows qrows count))
+  pub few : n ≤ 2048
+  pub long : length syms ≡ 307200
+  pub starts-long : length starts ≡ 2049
+  pub cut : Cut syms starts n
+  pub parts-are : partsOf syms starts n ≡ map (codesOf (classIn doc names rows)) (meanings (eventsIn doc names qnames events rows qrows count))

@@ -1,0 +1,10 @@
+pub mod Carry
+pub mod Bits
+pub mod Equal
+pub mod Fold
+pub mod Ends
+pub mod Twins
+pub mod Chain
+pub mod State
+pub mod Links
+pub mod Run

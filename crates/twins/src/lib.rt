@@ -1,0 +1,208 @@
+// Equal parts of one array of numbers: for each part the next that is equal, the number of pairs, and the pairs written.
+// Each part is hashed once and compared with later parts of its slot only, so that the work grows with the numbers and the
+// pairs where the hashes differ. The results do not depend on the hash.
+ghost use mathlib.Core.Path.{_≡_};
+ghost use mathlib.Core.List.{map};
+ghost use mathlib.Core.Bool.{cond};
+ghost use Prim.Native.Nat.{_+_, _*_, _%_, _<_, _≤_};
+ghost use lib.ListN.{length, getD};
+ghost use lib.Seq.{sets};
+ghost use lib.Dec.{leb};
+ghost use Rattle.lists.specs.Lists.{overlay};
+ghost use Rattle.meaning.specs.Meaning.{same};
+ghost use Rattle.meaning.specs.Pairs.{pair, pairsOf, flatPairs};
+ghost use Rattle.twins.specs.Parts.{partAt, partsOf, Cut, Next, Linked};
+ghost use Rattle.twins.specs.Search.{mixOf, mixTwo, hashOf, slotOf, Head, Chained, Nexts, twinsOf};
+
+// One step of the hash: a multiply with carry, which never wraps.
+fn mix(h: u64, x: u32) -> u64
+    ensures { λ r. ⌜ r ≡ mixOf h x ⌝ }
+{
+    (h % 4294967296) * 4294957665 + h / 4294967296 + (x as u64)
+}
+
+// The same for two numbers.
+fn mix_two(h: u64, x: u32, y: u32) -> u64
+    ensures { λ r. ⌜ r ≡ mixTwo h x y ⌝ }
+{
+    let w = (x as u64) * 2654435769 + (y as u64);
+    let z = h ^ w;
+    (z % 4294967296) * 4294957665 + z / 4294967296
+}
+
+fn hash_syms(a: &[u32]) -> u64
+    ensures { λ r. ⌜ r ≡ hashOf (now (a .entry)) ⌝ }
+{
+    let mut h: u64 = 88172645463325252;
+    let mut i = 0;
+    while 1 < a.len() - i {
+        h = mix_two(h, a[i], a[i + 1]);
+        i += 2;
+    }
+    if i < a.len() {
+        return mix(h, a[i]);
+    }
+    h
+}
+
+// With no early exit, so that the loop is vectorised.
+fn same_syms(a: &[u32], b: &[u32]) -> bool
+    ensures { λ r. ⌜ r ≡ same (now (a .entry)) (now (b .entry)) ⌝ }
+{
+    if a.len() != b.len() {
+        return false;
+    }
+    let mut d: u32 = 0;
+    let mut i = 0;
+    while i < a.len() {
+        d = d | (a[i] ^ b[i]);
+        i += 1;
+    }
+    d == 0
+}
+
+// Part k of n.
+fn part<'a>(syms: &'a [u32], starts: &[usize], k: usize, n: usize) -> &'a [u32]
+    requires { ⌜ Cut (now syms) (now starts) n × (k < n) ⌝ }
+    ensures { λ r. ⌜ now r ≡ partAt (now (syms .entry)) (now (starts .entry)) k ⌝ }
+{
+    let a = starts[k];
+    let e = starts[k + 1];
+    &syms[a..e]
+}
+
+// Whether part j is equal to part i, whose hash is h. The hashes are compared first: most unequal parts differ there.
+fn is_twin(
+    syms: &[u32],
+    starts: &[usize],
+    hashes: &[u64; 2048],
+    i: usize,
+    j: usize,
+    n: usize,
+    h: u64,
+) -> bool
+    requires { ⌜ (n ≤ 2048) × Cut (now syms) (now starts) n × (i < n) × (j < n)
+        × (h ≡ hashOf (partAt (now syms) (now starts) i))
+        × (getD (now hashes) j 0 ≡ hashOf (partAt (now syms) (now starts) j)) ⌝ }
+    ensures { λ r. ⌜ r ≡ same (partAt (now (syms .entry)) (now (starts .entry)) i) (partAt (now (syms .entry)) (now (starts .entry)) j) ⌝ }
+{
+    if hashes[j] != h {
+        return false;
+    }
+    same_syms(part(syms, starts, i, n), part(syms, starts, j, n))
+}
+
+// The next part equal to part i, along the chain of its slot.
+fn find(
+    syms: &[u32],
+    starts: &[usize],
+    hashes: &[u64; 2048],
+    chain: &[usize; 2048],
+    first: usize,
+    i: usize,
+    n: usize,
+    h: u64,
+) -> usize
+    requires { ⌜ (n ≤ 2048) × Cut (now syms) (now starts) n × (i < n)
+        × Chained (partAt (now syms) (now starts)) n (i + 1) (now hashes) (now chain)
+        × (h ≡ hashOf (partAt (now syms) (now starts) i))
+        × Head (λ x. slotOf (partAt (now syms) (now starts) x)) n (h % 4096) (i + 1) first ⌝ }
+    ensures { λ r. ⌜ Next (partAt (now (syms .entry)) (now (starts .entry))) n i r ⌝ }
+{
+    let mut j = first;
+    while j < n {
+        if is_twin(syms, starts, hashes, i, j, n, h) {
+            return j;
+        }
+        j = chain[j];
+    }
+    j
+}
+
+// How many equal parts come after one whose next is j.
+fn after(later: &[usize; 2048], j: usize, n: usize) -> usize
+    requires { ⌜ (n ≤ 2048) × (j < n → getD (now later) j 0 ≤ 2048) ⌝ }
+    ensures { λ r. ⌜ r ≡ cond (leb n j) 0 (getD (now (later .entry)) j 0 + 1) ⌝ }
+{
+    if n <= j {
+        return 0;
+    }
+    later[j] + 1
+}
+
+// The next equal part of each of n parts, and the number of pairs. From the last part to the first, so that what comes
+// after a part is known when the part is reached.
+pub fn link(syms: &[u32], starts: &[usize], n: usize, next: &mut [usize; 2048]) -> usize
+    requires { ⌜ (n ≤ 2048) × Cut (now syms) (now starts) n × (length (now next) ≡ 2048) ⌝ }
+    ensures { λ r. ⌜ (r ≡ length (pairsOf same (partsOf (now (syms .entry)) (now (starts .entry)) n)))
+        × Linked (partsOf (now (syms .entry)) (now (starts .entry)) n) (now (next .exit))
+        × (length (now (next .exit)) ≡ 2048) ⌝ }
+{
+    let mut slots = [n; 4096];
+    let mut chain = [0usize; 2048];
+    let mut hashes = [0u64; 2048];
+    let mut later = [0usize; 2048];
+    let mut pairs: usize = 0;
+    let mut i = n;
+    while 0 < i {
+        i -= 1;
+        let h = hash_syms(part(syms, starts, i, n));
+        let s = (h % 4096) as usize;
+        let first = slots[s];
+        let j = find(syms, starts, &hashes, &chain, first, i, n, h);
+        next[i] = j;
+        hashes[i] = h;
+        chain[i] = first;
+        slots[s] = i;
+        let l = after(&later, j, n);
+        later[i] = l;
+        pairs += l;
+    }
+    pairs
+}
+
+// The pairs of part i with later parts, from pairs[at] on; the place after them. The parts are named in the contract only.
+fn write_run(
+    syms: &[u32],
+    starts: &[usize],
+    n: usize,
+    next: &[usize; 2048],
+    i: usize,
+    pairs: &mut [u32],
+    at: usize,
+) -> usize
+    requires { ⌜ (n ≤ 2048) × (i < n) × Nexts (partAt (now syms) (now starts)) n 0 (now next)
+        × (at + 2 * length (twinsOf (partAt (now syms) (now starts)) n i) ≤ length (now pairs)) ⌝ }
+    ensures { λ r. ⌜ (now (pairs .exit) ≡ sets (now (pairs .entry)) at (flatPairs (map (pair i) (twinsOf (partAt (now (syms .entry)) (now (starts .entry))) n i))))
+        × (r ≡ at + 2 * length (twinsOf (partAt (now (syms .entry)) (now (starts .entry))) n i)) ⌝ }
+{
+    let mut to = at;
+    let mut j = next[i];
+    while j < n {
+        pairs[to] = i as u32;
+        pairs[to + 1] = j as u32;
+        to += 2;
+        j = next[j];
+    }
+    to
+}
+
+// All pairs, ordered by the earlier part, then the later, at the front of `pairs`. The links are followed: no part is read.
+pub fn write_pairs(
+    syms: &[u32],
+    starts: &[usize],
+    n: usize,
+    next: &[usize; 2048],
+    pairs: &mut [u32],
+)
+    requires { ⌜ (n ≤ 2048) × (length (now next) ≡ 2048) × Linked (partsOf (now syms) (now starts) n) (now next)
+        × (2 * length (pairsOf same (partsOf (now syms) (now starts) n)) ≤ length (now pairs)) ⌝ }
+    ensures { λ _. ⌜ now (pairs .exit) ≡ overlay (flatPairs (pairsOf same (partsOf (now (syms .entry)) (now (starts .entry)) n))) (now (pairs .entry)) ⌝ }
+{
+    let mut at = 0;
+    let mut i = 0;
+    while i < n {
+        at = write_run(syms, starts, n, next, i, pairs, at);
+        i += 1;
+    }
+}
