@@ -88,7 +88,8 @@ pub fn name_classes(doc: &[u8], names: &[u32], count: usize, classes: &mut [u32;
     ensures { λ _. ⌜ Front (nameClasses (now (doc .entry)) (nameRowsIn count (now (names .entry)))) (now (classes .exit))
         × (length (now (classes .exit)) ≡ 1024) ⌝ }
 {
-    let mut hashes = [0u32; 1024];
+    // a first value whose bytes differ is stored by vector instructions, not by memset
+    let mut hashes = [1u32; 1024];
     let mut r: usize = 0;
     while r < count {
         hashes[r] = hash_of(doc, cell(names, 2 * r), 2 * cell(names, 2 * r + 1)) as u32;

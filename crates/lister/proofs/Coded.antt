@@ -32,7 +32,7 @@ use Rattle.meaning.specs.Meaning.{Symbol, unit, opening, ending, attribute, clo
 use Rattle.meaning.specs.Pairs.{pairsOf}
 use Rattle.meaning.specs.Codes.{codesOf, Classes, Coded}
 use Rattle.meaning.proofs.Codes.{codes-pairs}
-use Rattle.render.specs.Render.{eventsIn, classIn, Drawable}
+use Rattle.render.specs.Render.{eventsIn, classIn, Renderable}
 use Rattle.lister.proofs.Units.{Low, units-low, text-low}
 
 -- ---- the texts of names
@@ -222,7 +222,7 @@ module _ (K : List ℕ → Type 0) where
 
 -- ---- the meanings of the rows of a document
 
-module _ {doc names qnames events classes : List ℕ} {rows qrows count : ℕ} (d : Drawable doc names qnames events classes rows qrows count) where
+module _ {doc names qnames events classes : List ℕ} {rows qrows count : ℕ} (d : Renderable doc names qnames events classes rows qrows count) where
   -- the classes of known texts are at most 1,024, and equal only for equal texts
   pub classes-known : Classes (Known doc names rows) (classIn doc names rows)
   classes-known = few-known doc names rows (d .few)

@@ -1,30 +1,28 @@
 -- The ways out of listing: what reading, the codes of the records and the count of pairs say together is what listing
 -- promises. Assumes nothing.
 use Prim.Native.Nat.{ℕ, _*_, _/_, _≤_, _<_}
-use mathlib.Core.Path.{_≡_, sym, ap, _∙_}
+use mathlib.Core.Path.{_≡_, refl, sym, ap, _∙_}
+use mathlib.Core.Bool.{Bool, true, false, cond}
 use mathlib.Core.List.{List}
 use native.Mathlib.Omega.{arith}
-use lib.ListN.{length, length-append}
+use lib.Dec.{ltb, eqb}
+use lib.ListN.{length}
 use Rattle.lists.specs.Lists.{overlay, Front, Bytes}
 use Rattle.lists.proofs.Tests.{tests}
 use Rattle.token.specs.Answers.{accepted, noPairs}
-use Rattle.reader.specs.Rows.{flatNames, flatQnames, flatEvents}
 use Rattle.reader.specs.Machine.{Result, reading}
-use Rattle.reader.specs.Events.{Event, eventsOf}
-use Rattle.reader.specs.Facts.{Every, NameFits, QnameFits, Placed}
+use Rattle.reader.specs.Events.{eventsOf}
 use Rattle.reader.specs.Contract.{roomIn, Reads}
 use Rattle.reader.specs.declared.Answer as reader-answer
-use Rattle.reader.proofs.Facts.{rows-fit}
-use Rattle.reader.proofs.Rows.{length-names, length-qnames, length-events}
-use Rattle.classes.specs.Tables.{nameRowsIn, qnameRowsIn, eventRowsIn}
+use Rattle.classes.specs.Tables.{nameRowsIn}
 use Rattle.classes.specs.Classes.{nameClasses}
-use Rattle.classes.proofs.Tables.{name-rows-back, qname-rows-back, event-rows-back}
 use Rattle.meaning.specs.Meaning.{same, sameMeaning, meanings}
 use Rattle.meaning.specs.Pairs.{pairsOf, flatPairs}
 use Rattle.twins.specs.Parts.{partsOf}
-use Rattle.render.specs.Render.{eventsIn, Drawable, Rendered}
+use Rattle.render.specs.Render.{eventsIn, Renderable, Rendered}
 use Rattle.lister.specs.declared.Answer.{Answer}
 use Rattle.lister.specs.Contract.{answer, meaningsIn, pairsIn, judged, answerOf, listOf, Lists}
+use Rattle.lister.specs.Tables.{Filled, tableMeanings, tablePairs, TablesListed}
 use Rattle.lister.proofs.Coded.{same-pairs}
 use Rattle.filled.proofs.Rooms.{stops-inside}
 use Rattle.filled.proofs.Filled.{number-read, place-read, names-long, qnames-long, events-long, same-rows, few, qfew, efew, names-fit, qnames-fit, events-fit}
@@ -41,13 +39,12 @@ pub same-events : {r : Result} {names qnames events names′ qnames′ events′
 unfolding eventsIn
 same-events h doc = same-rows h doc
 
--- with the classes that `name_classes` writes, the tables can be rendered
+-- an accepted reading fills the tables
 module _ (doc : List ℕ) {names qnames events names′ qnames′ events′ : List ℕ} {a : reader-answer.Answer}
     (h : Reads (reading doc (roomIn (length names) (length qnames) (length events))) names qnames events names′ qnames′ events′ a)
     (short : length doc ≤ 65536) where
-  pub drawable : {classes : List ℕ} → length classes ≡ 1024 → Front (nameClasses doc (nameRowsIn (a .names) names′)) classes
-      → Drawable doc names′ qnames′ events′ classes (a .names) (a .qnames) (a .events)
-  drawable l f =
+  pub filled : Filled doc names′ qnames′ events′ a
+  filled =
       record {
         short = short;
         few = few doc h short;
@@ -61,9 +58,63 @@ module _ (doc : List ℕ) {names qnames events names′ qnames′ events′ : Li
         last = reading doc (roomIn (length names) (length qnames) (length events)) .final .at;
         inside = stops-inside doc (roomIn (length names) (length qnames) (length events));
         events-fit = events-fit doc h short;
-        classes-long = l;
-        classes-are = f;
       }
+
+-- with the classes that `name_classes` writes, the tables can be rendered
+pub renderable : {doc names qnames events : List ℕ} {a : reader-answer.Answer} → Filled doc names qnames events a
+    → {classes : List ℕ} → length classes ≡ 1024 → Front (nameClasses doc (nameRowsIn (a .names) names)) classes
+    → Renderable doc names qnames events classes (a .names) (a .qnames) (a .events)
+renderable f l c =
+    record {
+      short = f .short;
+      few = f .few;
+      long = f .long;
+      qfew = f .qfew;
+      qlong = f .qlong;
+      efew = f .efew;
+      elong = f .elong;
+      names-fit = f .names-fit;
+      qnames-fit = f .qnames-fit;
+      last = f .last;
+      inside = f .inside;
+      events-fit = f .events-fit;
+      classes-long = l;
+      classes-are = c;
+    }
+
+-- ---- the ways out of listing from the tables
+
+module _ (a : reader-answer.Answer) {doc names qnames events classes syms starts hashes : List ℕ} {n pairs : ℕ} (b : Bytes doc)
+    (d : Renderable doc names qnames events classes (a .names) (a .qnames) (a .events))
+    (g : Rendered doc names qnames events (a .names) (a .qnames) (a .events) syms starts hashes n)
+    (counted : pairs ≡ length (pairsOf same (partsOf syms starts n))) where
+  records-are : n ≡ length (tableMeanings doc names qnames events a)
+  unfolding tableMeanings
+  records-are = g .number-is
+
+  -- the pairs of equal parts are the pairs of equal records
+  pairs-are : pairsOf same (partsOf syms starts n) ≡ tablePairs doc names qnames events a
+  unfolding tableMeanings tablePairs
+  pairs-are = ap (pairsOf same) (g .parts-are) ∙ same-pairs d b
+
+  count-is : pairs ≡ length (tablePairs doc names qnames events a)
+  count-is = counted ∙ ap length pairs-are
+
+  -- 11: the pairs in full for its count, and the list is not touched
+  pub too-small : {list : List ℕ} → length list / 2 < pairs → {c : Answer} → c ≡ answer noPairs pairs n pairs
+      → TablesListed doc names qnames events a list list c
+  unfolding judged
+  too-small {list} l e =
+      let m : length list / 2 < length (tablePairs doc names qnames events a) = omega (arith, count-is) in
+      record { answer-is = e ∙ rw (records-are, count-is) (simp (tests, m)); list-is = simp (tests, m) }
+
+  -- 0: the list holds the pairs
+  pub written : {list list′ : List ℕ} → pairs ≤ length list / 2 → list′ ≡ overlay (flatPairs (pairsOf same (partsOf syms starts n))) list
+      → {c : Answer} → c ≡ answer accepted (a .place) n pairs → TablesListed doc names qnames events a list list′ c
+  unfolding judged
+  written {list} l w e =
+      let m : length (tablePairs doc names qnames events a) ≤ length list / 2 = omega (arith, count-is) in
+      record { answer-is = e ∙ rw (records-are, count-is) (simp (tests, m)); list-is = w ∙ rw pairs-are (simp (tests, m)) }
 
 -- ---- the ways out
 
@@ -83,52 +134,35 @@ module _ {doc : List ℕ} {r : Result} {names qnames events names′ qnames′ e
         list-is = simp (tests, i);
       }
 
-  module _ {classes syms starts : List ℕ} {n pairs : ℕ} (ok : a .number ≡ 0) (b : Bytes doc)
-      (d : Drawable doc names′ qnames′ events′ classes (a .names) (a .qnames) (a .events))
-      (g : Rendered doc names′ qnames′ events′ (a .names) (a .qnames) (a .events) syms starts n)
-      (counted : pairs ≡ length (pairsOf same (partsOf syms starts n))) where
-    records-are : n ≡ length (meaningsIn doc r)
-    unfolding meaningsIn
-    records-are = g .number-is ∙ ap (λ (es : List Event). length (meanings es)) (same-events h doc)
+-- accepted: what is listed from the tables
+module _ (doc : List ℕ) {r : Result} {names qnames events names′ qnames′ events′ : List ℕ} {a : reader-answer.Answer}
+    (h : Reads r names qnames events names′ qnames′ events′ a) (ok : a .number ≡ 0) where
+  meanings-are : tableMeanings doc names′ qnames′ events′ a ≡ meaningsIn doc r
+  unfolding meaningsIn tableMeanings
+  meanings-are = ap meanings (same-events h doc)
 
-    -- the pairs of equal parts are the pairs of equal records
-    pairs-are : pairsOf same (partsOf syms starts n) ≡ pairsIn doc r
-    unfolding meaningsIn pairsIn
-    pairs-are =
-        ap (pairsOf same) (g .parts-are) ∙ same-pairs d b ∙ ap (λ (es : List Event). pairsOf sameMeaning (meanings es)) (same-events h doc)
+  table-pairs : tablePairs doc names′ qnames′ events′ a ≡ pairsIn doc r
+  unfolding pairsIn tablePairs
+  table-pairs = ap (pairsOf sameMeaning) meanings-are
 
-    count-is : pairs ≡ length (pairsIn doc r)
-    count-is = counted ∙ ap length pairs-are
+  number-is : r .number ≡ 0
+  number-is = sym (number-read h) ∙ ok
 
-    number-is : r .number ≡ 0
-    number-is = sym (number-read h) ∙ ok
-
-    -- 11: the pairs in full for its count, and the list is not touched
-    pub too-small : {list : List ℕ} → length list / 2 < pairs → {c : Answer} → c ≡ answer noPairs pairs n pairs
-        → Lists doc r names qnames events list names′ qnames′ events′ list c
-    unfolding judged answerOf listOf
-    too-small {list} l e =
-        let m : length list / 2 < length (pairsIn doc r) = omega (arith, count-is) in
-        let i = number-is in
-        record {
-          answer-is = e ∙ rw (records-are, count-is) (simp (tests, i, m));
-          names-are = h .names-are;
-          qnames-are = h .qnames-are;
-          events-are = h .events-are;
-          list-is = simp (tests, i, m);
-        }
-
-    -- 0: the list holds the pairs
-    pub written : {list list′ : List ℕ} → pairs ≤ length list / 2 → list′ ≡ overlay (flatPairs (pairsOf same (partsOf syms starts n))) list
-        → {c : Answer} → c ≡ answer accepted (a .place) n pairs → Lists doc r names qnames events list names′ qnames′ events′ list′ c
-    unfolding judged answerOf listOf
-    written {list} l w e =
-        let m : length (pairsIn doc r) ≤ length list / 2 = omega (arith, count-is) in
-        let i = number-is in
-        record {
-          answer-is = e ∙ rw (records-are, count-is, place-read h) (simp (tests, i, m));
-          names-are = h .names-are;
-          qnames-are = h .qnames-are;
-          events-are = h .events-are;
-          list-is = w ∙ rw pairs-are (simp (tests, i, m));
-        }
+  pub listed : {list list′ : List ℕ} {c : Answer} → TablesListed doc names′ qnames′ events′ a list list′ c
+      → Lists doc r names qnames events list names′ qnames′ events′ list′ c
+  unfolding judged answerOf listOf
+  listed {list} t =
+      let i = number-is in
+      record {
+        answer-is = t .answer-is ∙ rw (meanings-are, table-pairs, place-read h) (simp (tests, i));
+        names-are = h .names-are;
+        qnames-are = h .qnames-are;
+        events-are = h .events-are;
+        list-is = t .list-is ∙ rw table-pairs (simp (tests, i) (go (ltb (length list / 2) (length (pairsIn doc r)))));
+      }
+    where
+      go : (b : Bool) → cond b list (overlay (flatPairs (pairsIn doc r)) list)
+          ≡ cond (eqb (cond b (answer noPairs (length (pairsIn doc r)) (length (meaningsIn doc r)) (length (pairsIn doc r))) (answer accepted (r .place) (length (meaningsIn doc r)) (length (pairsIn doc r))) .number) accepted)
+          (overlay (flatPairs (pairsIn doc r)) list) list
+      go true = refl
+      go false = refl

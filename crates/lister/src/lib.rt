@@ -1,10 +1,14 @@
 // Listing: the pairs of records with equal meaning, for any document, tables and list (01, "The four jobs"). The meanings of
-// all records are rendered as numbers into one array; equal parts of it are linked, counted, and written as pairs.
+// all records are rendered as numbers into one array, with their hashes; equal parts of it are linked, counted, and written as
+// pairs.
 ghost use mathlib.Core.Path.{_≡_};
 ghost use lib.ListN.{length};
 ghost use Rattle.reader.specs.Machine.{reading};
 ghost use Rattle.reader.specs.Contract.{roomIn};
+ghost use Prim.Native.Nat.{_≤_};
+ghost use Rattle.render.specs.Render.{roomFor};
 ghost use Rattle.lister.specs.Contract.{answer, Lists};
+ghost use Rattle.lister.specs.Tables.{Filled, TablesListed};
 
 // The answer number, its place or count, and how many records and pairs there are.
 pub struct Answer {
@@ -25,7 +29,60 @@ fn refused(number: u32, place: usize) -> Answer
     }
 }
 
-// Fills the three tables as reading does, and then the list. Its local arrays take about 1.3 MB of the stack.
+// Lists the records of tables that an accepted reading has filled. `syms` has room for the numbers of every document of this
+// size.
+fn list_tables(
+    doc: &[u8],
+    names: &[u32],
+    qnames: &[u32],
+    events: &[u32],
+    read: reader::Answer,
+    syms: &mut [u32],
+    pairs: &mut [u32],
+) -> Answer
+    requires { ⌜ Filled (now doc) (now names) (now qnames) (now events) read × (roomFor (length (now doc)) (read .events) ≤ length (now syms)) ⌝ }
+    ensures { λ r. ⌜ TablesListed (now (doc .entry)) (now (names .entry)) (now (qnames .entry)) (now (events .entry)) read (now (pairs .entry)) (now (pairs .exit)) r ⌝ }
+{
+    // a first value whose bytes differ is stored by vector instructions, not by memset
+    let mut classes = [1u32; 1024];
+    let mut starts = [1usize; 2049];
+    let mut hashes = [1u64; 2049];
+    let mut next = [1usize; 2048];
+    classes::name_classes(doc, names, read.names, &mut classes);
+    let records = render::render(
+        doc,
+        names,
+        qnames,
+        events,
+        &classes,
+        read.names,
+        read.qnames,
+        read.events,
+        syms,
+        &mut starts,
+        &mut hashes,
+    );
+    let count = twins::link(syms, &starts, &hashes, records, &mut next);
+    if pairs.len() / 2 < count {
+        return Answer {
+            number: token::NO_PAIRS,
+            place: count,
+            records,
+            pairs: count,
+        };
+    }
+    twins::write_pairs(syms, &starts, records, &next, pairs);
+    Answer {
+        number: token::ACCEPTED,
+        place: read.place,
+        records,
+        pairs: count,
+    }
+}
+
+// Fills the three tables as reading does, and then the list. The meanings are rendered into the smallest of three arrays that
+// has room for every document of this size, so that a small document does not pay for clearing the largest. The local arrays
+// take up to 1.5 MB of the stack.
 pub fn list(
     doc: &[u8],
     names: &mut [u32],
@@ -41,38 +98,15 @@ pub fn list(
     if read.number != 0 {
         return refused(read.number, read.place);
     }
-    let mut classes = [0u32; 1024];
-    let mut syms = [0u32; 307200];
-    let mut starts = [0usize; 2049];
-    let mut next = [0usize; 2048];
-    classes::name_classes(doc, names, read.names, &mut classes);
-    let records = render::render(
-        &token::table(),
-        doc,
-        names,
-        qnames,
-        events,
-        &classes,
-        read.names,
-        read.qnames,
-        read.events,
-        &mut syms,
-        &mut starts,
-    );
-    let count = twins::link(&syms, &starts, records, &mut next);
-    if pairs.len() / 2 < count {
-        return Answer {
-            number: token::NO_PAIRS,
-            place: count,
-            records,
-            pairs: count,
-        };
+    let need = 5 * doc.len() + 2 * read.events;
+    if need <= 40960 {
+        let mut small = [1u32; 40960];
+        return list_tables(doc, names, qnames, events, read, &mut small, pairs);
     }
-    twins::write_pairs(&syms, &starts, records, &next, pairs);
-    Answer {
-        number: token::ACCEPTED,
-        place: read.place,
-        records,
-        pairs: count,
+    if need <= 65536 {
+        let mut medium = [1u32; 65536];
+        return list_tables(doc, names, qnames, events, read, &mut medium, pairs);
     }
+    let mut large = [1u32; 335872];
+    list_tables(doc, names, qnames, events, read, &mut large, pairs)
 }

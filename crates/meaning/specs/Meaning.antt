@@ -5,7 +5,7 @@ use mathlib.Core.Bool.{Bool, true, false, cond, _&&_, _||_}
 use mathlib.Core.Option.{Option, none, some}
 use mathlib.Core.List.{List, [], _∷_, _++_, map}
 use lib.Dec.{eqb}
-use lib.ListN.{length, take}
+use lib.ListN.{take}
 use Rattle.lists.specs.Lists.{unitsOf}
 use Rattle.reader.specs.Events.{Event, texted, standalone, pi, qnamed, valued, nest, plain}
 use Rattle.text.specs.Text.{textOf}

@@ -1,13 +1,14 @@
 // The text of a number, as at most 41 units of 16 bits (01, "Text of a value"). Numbers of every width become chunks of
-// 18 digits first, so that one writer serves them all and each digit costs one division of a u64.
+// 18 digits first, so that each digit costs one division of a u64.
 ghost use mathlib.Core.Path.{_≡_};
 ghost use Prim.Native.Nat.{_+_, _-_, _/_, _%_, _^_, _≤_, _<_};
 ghost use lib.ListN.{length, take, drop};
 ghost use lib.Seq.{slice};
 ghost use lib.Dec.{eqb};
-ghost use Rattle.lists.specs.Lists.{overlay, little};
+ghost use mathlib.Core.Bool.{true};
+ghost use Rattle.lists.specs.Lists.{overlay, part, little};
 ghost use Rattle.numeral.specs.Numeral.{digits, numeral, truth};
-ghost use Rattle.numeral.specs.Chunks.{valueOf, Chunked, limbsValue, LimbsFit, Divides, UnitPut, UnitsPut, Ends, FractionPut};
+ghost use Rattle.numeral.specs.Chunks.{wordSize, valueOf, Chunked, limbsValue, LimbsFit, Divides, UnitPut, UnitsPut, Ends, FractionPut};
 
 // A number: `low` has its last `left` digits, `mid` the 18 above them, `high` the rest.
 pub struct Chunks {
@@ -51,10 +52,53 @@ pub fn little_at(p: &[u8], from: usize, to: usize) -> u64
     v
 }
 
-// The chunks of a number of 64 bits.
+// A byte as a number of 64 bits.
+fn wide(b: u8) -> u64
+    ensures { λ r. ⌜ (r ≡ b) × (r < 256) ⌝ }
+{
+    b as u64
+}
+
+// The numbers of two and of four bytes, each one sum of products: the compiler makes one load of it.
+fn two(p: &[u8], at: usize) -> u64
+    requires { ⌜ at + 2 ≤ length (now p) ⌝ }
+    ensures { λ r. ⌜ (r ≡ little (part (now (p .entry)) at 2)) × (r < 65536) ⌝ }
+{
+    wide(p[at]) + 256 * wide(p[at + 1])
+}
+
+fn four(p: &[u8], at: usize) -> u64
+    requires { ⌜ at + 4 ≤ length (now p) ⌝ }
+    ensures { λ r. ⌜ (r ≡ little (part (now (p .entry)) at 4)) × (r < 4294967296) ⌝ }
+{
+    wide(p[at]) + 256 * wide(p[at + 1]) + 65536 * wide(p[at + 2]) + 16777216 * wide(p[at + 3])
+}
+
+// The number of 1, 2, 4 or 8 bytes, the least significant first.
+pub fn word_of(p: &[u8]) -> u64
+    requires { ⌜ wordSize (length (now p)) ≡ true ⌝ }
+    ensures { λ r. ⌜ (r ≡ little (now (p .entry))) × (r < 256 ^ length (now (p .entry))) ⌝ }
+{
+    match p.len() {
+        1 => wide(p[0]),
+        2 => two(p, 0),
+        4 => four(p, 0),
+        _ => four(p, 0) + 4294967296 * four(p, 4),
+    }
+}
+
+// The chunks of a number of 64 bits. Most have at most 18 digits, and then no division is needed.
 pub fn of_word(n: u64) -> Chunks
     ensures { λ r. ⌜ (valueOf r ≡ n) × Chunked r ⌝ }
 {
+    if n < 1000000000000000000 {
+        return Chunks {
+            low: n,
+            mid: 0,
+            high: 0,
+            left: 18,
+        };
+    }
     Chunks {
         low: n % 1000000000000000000,
         mid: n / 1000000000000000000,
@@ -204,7 +248,7 @@ fn put_fraction(n: Chunks, scale: usize, small: &mut [u8; 82]) -> Unwritten
 }
 
 // Puts all digits of n, so that they end before unit `end`; gives the unit at which they begin.
-fn put_whole(n: Chunks, end: usize, small: &mut [u8; 82]) -> usize
+fn put_chunks(n: Chunks, end: usize, small: &mut [u8; 82]) -> usize
     requires { ⌜ Chunked n × (2 ≤ end) × (end ≤ 41) × (valueOf n < 10 ^ (end - 1)) × (length (now small) ≡ 82) ⌝ }
     ensures { λ r. ⌜ UnitsPut (now (small .entry)) (now (small .exit)) (digits (valueOf n)) end r × (1 ≤ r) ⌝ }
 {
@@ -219,6 +263,37 @@ fn put_whole(n: Chunks, end: usize, small: &mut [u8; 82]) -> usize
         }
     }
     at
+}
+
+// The same for a number of one chunk: a digit costs one division and no move of the chunks above.
+fn put_word(n: u64, end: usize, small: &mut [u8; 82]) -> usize
+    requires { ⌜ (2 ≤ end) × (end ≤ 41) × (n < 10 ^ (end - 1)) × (length (now small) ≡ 82) ⌝ }
+    ensures { λ r. ⌜ UnitsPut (now (small .entry)) (now (small .exit)) (digits n) end r × (1 ≤ r) ⌝ }
+{
+    let mut at = end;
+    let mut v = n;
+    loop {
+        at -= 1;
+        put(small, at, 48 + (v % 10) as u8);
+        v = v / 10;
+        if v == 0 {
+            break;
+        }
+    }
+    at
+}
+
+// The same for any number, by the shorter of the two ways.
+fn put_whole(n: Chunks, end: usize, small: &mut [u8; 82]) -> usize
+    requires { ⌜ Chunked n × (2 ≤ end) × (end ≤ 41) × (valueOf n < 10 ^ (end - 1)) × (length (now small) ≡ 82) ⌝ }
+    ensures { λ r. ⌜ UnitsPut (now (small .entry)) (now (small .exit)) (digits (valueOf n)) end r × (1 ≤ r) ⌝ }
+{
+    if n.mid == 0 {
+        if n.high == 0 {
+            return put_word(n.low, end, small);
+        }
+    }
+    put_chunks(n, end, small)
 }
 
 // Puts the text of n / 10^scale, below zero where `minus` says so, at the end of small; gives the unit at which it begins.

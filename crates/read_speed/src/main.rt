@@ -2,6 +2,10 @@
 // Its arguments are the number of times and the file's name.
 use libc::STDOUT_FILENO;
 
+fn wide(x: u32) -> u64 {
+    x as u64
+}
+
 fn repeat(doc: &[u8], count: usize) -> u64 {
     let mut names = [0u32; 2048];
     let mut qnames = [0u32; 3072];
@@ -11,6 +15,10 @@ fn repeat(doc: &[u8], count: usize) -> u64 {
     while i < count {
         let a = reader::read(doc, &mut names, &mut qnames, &mut events);
         sum = std::num::wrapping_add_u64(sum, a.events as u64);
+        // what was written is looked at, so that the compiler keeps the writing
+        sum = std::num::wrapping_add_u64(sum, wide(names[0]));
+        sum = std::num::wrapping_add_u64(sum, wide(qnames[0]));
+        sum = std::num::wrapping_add_u64(sum, wide(events[0]));
         i += 1;
     }
     sum

@@ -4,6 +4,7 @@ pub mod Rows
 pub mod Scopes
 pub mod Keeps
 pub mod Walks
+pub mod Short
 pub mod Whole
 pub mod Trace
 pub mod Refusals

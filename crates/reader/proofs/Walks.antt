@@ -20,8 +20,7 @@ use Rattle.scan.specs.declared.Step.the-variants as step
 use Rattle.reader.specs.Rows.{flatNames, flatQnames, flatEvents}
 use Rattle.reader.specs.Machine.{Scope, State, view, returned, apply, Result, result, continued, run, started}
 use Rattle.reader.specs.Contract.{answerOf, Reads}
-use Rattle.reader.specs.Tables.{Tables, tables, Turned, Held, Begins}
-use Rattle.reader.specs.declared.Answer.{Answer}
+use Rattle.reader.specs.Tables.{Tables, tables, answerAt, Turned, Held, Begins}
 use Rattle.reader.proofs.Keeps.{Stored, Kept, Goes, keep, same-lengths}
 
 -- a step whose tag is not that of `Stop`
@@ -142,12 +141,12 @@ module _ {doc : List ℕ} {room : Room} {version : ℕ} {end : Result} {n₀ q�
   -- the machine stops: the answer and the tables are those of the state reached
   pub ending : (number place : ℕ) {x : Step} → x ≡ stepAt doc v room → x ≡ step.Stop number place
       → Reads end n₀ q₀ e₀ (t .names) (t .qnames) (t .events)
-      (record { number = number; place = place; names = v .names; qnames = v .qnames; events = v .events; version = version })
+      (answerAt v number place version)
   ending number place {x} e g = by-fuel (w .left) (w .same) (w .enough)
     where
       by-fuel : (left : ℕ) → run left doc room version (w .s) ≡ end → length doc < w .s .at + left
           → Reads end n₀ q₀ e₀ (t .names) (t .qnames) (t .events)
-          (record { number = number; place = place; names = v .names; qnames = v .qnames; events = v .events; version = version })
+          (answerAt v number place version)
       by-fuel zero same enough = absurd (let h = w .held .at-in in let q : ⊥ = omega arith in q)
       by-fuel (suc left) same enough =
           let e′ : step.Stop number place ≡ stepAt doc (view (w .s)) room = rw (w .seen) at (sym g ∙ e) in

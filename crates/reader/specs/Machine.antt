@@ -145,7 +145,7 @@ continued version s onward (step.Close next) = onward (apply s (step.Close next)
 continued version s onward (step.Nest version′ next) = onward (apply s (step.Nest version′ next))
 continued version s onward (step.Leave next) = onward (apply s (step.Leave next))
 
--- at most so many steps; more than the document has bytes are never needed (proofs/Fuel.antt), so 255 is never answered
+-- at most so many steps; more than the document has bytes are never needed (`stops-reading`, proofs/Trace.antt), so 255 is never answered
 unfoldable pub run : ℕ → List ℕ → Room → ℕ → State → Result
 run zero doc room version s = result 255 (s .at) version s
 run (suc steps) doc room version s = continued version s (λ t. run steps doc room version t) (stepAt doc (view s) room)

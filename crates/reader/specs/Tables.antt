@@ -10,6 +10,7 @@ use Rattle.scan.specs.declared.View.{View}
 use Rattle.scan.specs.declared.Room.{Room}
 use Rattle.scan.specs.declared.Step.{Step}
 use Rattle.scan.specs.declared.Step.the-variants as step
+use Rattle.reader.specs.declared.Answer.{Answer}
 
 -- the three lent tables, the stacks of name rows and qname rows of all open documents, and what returns after a nested one
 pub record Tables : Type 0 where
@@ -249,6 +250,11 @@ viewAfter t v (step.Pi target start next) = evented v (afterMisc (v .mode)) next
 viewAfter t v (step.Close next) = closed v next
 viewAfter t v (step.Nest version next) = inside v version next
 viewAfter t v (step.Leave next) = outside (t .frames) v next
+
+-- the answer at a view
+abbrev pub answerAt : View → ℕ → ℕ → ℕ → Answer
+answerAt v number place version =
+    record { number = number; place = place; names = v .names; qnames = v .qnames; events = v .events; version = version }
 
 pub record Turned (t t′ : Tables) (v : View) (s : Step) (r : View) : Type 0 where
   pub names-are : t′ .names ≡ tablesAfter t v s .names

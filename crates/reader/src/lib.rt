@@ -1,14 +1,15 @@
 // Reading: a document into three lent tables of 32-bit numbers, for any document and any tables (01, "The four jobs").
 ghost use mathlib.Core.Path.{_≡_};
 ghost use Prim.Native.Nat.{suc, _+_, _-_, _*_, _≤_, _<_, min};
-ghost use lib.ListN.{length, set};
+ghost use lib.ListN.{length, getD, set};
 ghost use Rattle.token.specs.Entries.{Listed};
 ghost use Rattle.scan.specs.Bounds.{Fine};
-ghost use Rattle.reader.specs.Machine.{blank, started, result, run, reading};
+ghost use Rattle.reader.specs.Machine.{blank, view, started, result, run, reading};
 ghost use Rattle.reader.specs.Contract.{roomIn, answerOf, Reads};
 ghost use Rattle.scan.specs.Modes.{afterMetadata, afterMisc};
-ghost use Rattle.reader.specs.Tables.{tables, put2, put3, put4, put6, rowAt, moved, evented, named, qnamed, flushed, entered, closed, inside, outside, Turned, Held, Begins};
+ghost use Rattle.reader.specs.Tables.{tables, put2, put3, put4, put6, rowAt, moved, evented, named, qnamed, flushed, entered, closed, inside, outside, answerAt, Turned, Held, Begins};
 use fields::Header;
+use scan::Common;
 use scan::Mode;
 use scan::Room;
 use scan::Step;
@@ -288,6 +289,24 @@ fn add_event(
     past_event(v, mode, next)
 }
 
+// A value of so many bytes, which stand behind its token.
+fn add_value(events: &mut [u32], doc: &[u8], v: View, size: usize) -> View
+    requires { ⌜ (v .events < 4096) × (4 * v .events + 4 ≤ length (now events)) × (v .at + 1 + size ≤ length (now doc)) × (length (now doc) ≤ 65536) ⌝ }
+    ensures { λ r. ⌜ (now (events .exit) ≡ put4 (now (events .entry)) (v .events) (getD (now (doc .entry)) (v .at) 0) (v .at) (v .at + 1) size)
+        × (r ≡ evented v Mode.Content (v .at + 1 + size)) ⌝ }
+{
+    let at = v.at;
+    add_event(
+        events,
+        v,
+        doc[at],
+        at + 1,
+        size,
+        Mode::Content,
+        at + 1 + size,
+    )
+}
+
 fn add_reference(
     events: &mut [u32],
     qstack: &[u32; 1024],
@@ -432,7 +451,42 @@ fn turn(
 
 // ---- the job
 
-// Token after token, from the place after the outer header on.
+// Before the first token, which stands after the outer header.
+fn first_view(version: usize, next: usize) -> View
+    ensures { λ r. ⌜ r ≡ view (started version next) ⌝ }
+{
+    View {
+        at: next,
+        mode: Mode::First,
+        version,
+        elements: 0,
+        opened: 0,
+        depth: 0,
+        known: 0,
+        base: 0,
+        qknown: 0,
+        qbase: 0,
+        names: 0,
+        qnames: 0,
+        events: 0,
+    }
+}
+
+fn answered(v: View, number: u32, place: usize, version: usize) -> Answer
+    ensures { λ r. ⌜ r ≡ answerAt v number place version ⌝ }
+{
+    Answer {
+        number,
+        place,
+        names: v.names,
+        qnames: v.qnames,
+        events: v.events,
+        version,
+    }
+}
+
+// Token after token, from the place after the outer header on. The commonest ones go a short way: their rows are written
+// at once, and neither the scanner's step nor `turn` is asked.
 fn walk(
     table: &[u16; 256],
     doc: &[u8],
@@ -447,35 +501,31 @@ fn walk(
     ensures { λ r. ⌜ Reads (run (suc (length (now (doc .entry)))) (now (doc .entry)) room version (started version next))
         (now (names .entry)) (now (qnames .entry)) (now (events .entry)) (now (names .exit)) (now (qnames .exit)) (now (events .exit)) r ⌝ }
 {
-    let mut stack = [0u32; 1024];
-    let mut qstack = [0u32; 1024];
+    // A first value whose bytes differ is stored by vector instructions, and one of equal bytes by a call of memset.
+    let mut stack = [1u32; 1024];
+    let mut qstack = [1u32; 1024];
     let mut frames = [0usize; 48];
-    let mut v = View {
-        at: next,
-        mode: Mode::First,
-        version,
-        elements: 0,
-        opened: 0,
-        depth: 0,
-        known: 0,
-        base: 0,
-        qknown: 0,
-        qbase: 0,
-        names: 0,
-        qnames: 0,
-        events: 0,
-    };
+    let mut v = first_view(version, next);
     loop {
+        let common = scan::common_at(table, doc, v, room);
+        match common {
+            Common::Other => {}
+            Common::End => {
+                v = close_element(events, v, v.at + 1);
+                continue;
+            }
+            Common::Begin(number) => {
+                v = add_element(events, &qstack, v, number, v.at + 2);
+                continue;
+            }
+            Common::Fixed(size) => {
+                v = add_value(events, doc, v, size);
+                continue;
+            }
+        }
         let step = scan::step_at(table, doc, v, room);
         if let Step::Stop { number, place } = step {
-            break Answer {
-                number,
-                place,
-                names: v.names,
-                qnames: v.qnames,
-                events: v.events,
-                version,
-            };
+            break answered(v, number, place, version);
         }
         v = turn(
             names,

@@ -3,6 +3,8 @@ pub mod Texts
 pub mod Rows
 pub mod Tokens
 pub mod Names
-pub mod Says
+pub mod MarkLaws
+pub mod Rooms
 pub mod Sums
-pub mod Draw
+pub mod Says
+pub mod Loop

@@ -20,7 +20,7 @@ use Rattle.classes.proofs.Classes.{class-empty, name-class-at, name-text-at, le
 use Rattle.classes.proofs.Qnames.{keyable}
 use Rattle.meaning.specs.Meaning.{declares, same, xmlns}
 use Rattle.meaning.specs.Codes.{both}
-use Rattle.render.specs.Render.{Drawable, classIn}
+use Rattle.render.specs.Render.{Renderable, classIn}
 use Rattle.render.specs.Codes.{uriAt, prefixAt, localAt, pairOf, Named, declaresAt, xmlnsColon}
 
 class-is : (doc : List ℕ) (N : List NameRow) (classes : List ℕ) → Front (nameClasses doc N) classes → (x : ℕ) → x ≤ length N
@@ -32,7 +32,7 @@ class-is doc N classes front (suc k) h =
     let l : k < length (nameClasses doc N) = omega (arith, length-classes doc N) in
     front-at (nameClasses doc N) classes k l front ∙ name-class-at doc N k (s .1) ∙ ap (numberOf (textsOf doc N)) (sym (name-text-at doc N k (s .1)))
 
-module _ {doc names qnames events classes : List ℕ} {rows qrows count : ℕ} (d : Drawable doc names qnames events classes rows qrows count) where
+module _ {doc names qnames events classes : List ℕ} {rows qrows count : ℕ} (d : Renderable doc names qnames events classes rows qrows count) where
   pub named-row : (row : ℕ) → 1 ≤ row → row ≤ qrows → Named doc names qnames classes rows row
   named-row row l h =
       let n : length (nameRowsIn rows names) ≡ rows = length-name-rows rows names in

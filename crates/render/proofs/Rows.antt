@@ -1,38 +1,35 @@
--- The numbers that a row adds, by the way its token takes. Assumes nothing.
-use Prim.Native.Nat.{ℕ, _+_, _-_, _*_, _≤_, _<_}
+-- What each way of a row writes, and what the walk then knows. Assumes nothing.
+use Prim.Native.Nat.{ℕ, _+_, _-_, _*_, _%_, _≤_, _<_}
 use mathlib.Core.Path.{_≡_, refl, sym, ap, _∙_}
 use mathlib.Core.Bool.{Bool, true, false, cond}
 use mathlib.Core.List.{List, [], _∷_, _++_, map, append-nil}
 use native.Mathlib.Omega.{arith}
-use lib.Dec.{eqb}
-use lib.ListN.{length, getD, take, drop, length-take}
-use borrow.Author.Tests.{eq-eqb, ne-eqb, lt-ltb, le-ltb}
+use lib.Dec.{eqb, leb}
+use lib.ListN.{length, getD, take, drop, set, length-take}
+use borrow.Author.Tests.{eq-eqb, ne-eqb, lt-ltb, le-ltb, le-leb, lt-leb}
 use Rattle.lists.specs.Lists.{part, unitsOf}
 use Rattle.text.specs.Text.{textOf}
 use Rattle.meaning.specs.Codes.{mark}
-use Rattle.classes.specs.Search.{classAt}
-use Rattle.render.specs.Codes.{pairOf, isValue, valueCodes, closeBy, valueBy, codesBy, rowBy, beginsBy, depthBy, attributeBy, declaresAt, sizeBy}
+use Rattle.hash.specs.Hash.{hashFrom}
+use Rattle.render.specs.declared.values.Cursor.{Cursor}
+use Rattle.render.specs.declared.Progress.{Progress}
+use Rattle.render.specs.Store.{PutHashed}
+use Rattle.render.specs.Codes.{isValue, valueCodes, openingIn, declaredIn, closeBy, countedBy, valueBy, codesBy, unlessOut, rowBy, depthBy, attributeBy, roomBy}
+use Rattle.render.specs.Effects.{cursorOf, Begun, RowPut, RowDone}
+use Rattle.render.proofs.Going.{put-none, put-as, put-set}
 
-span : (a n : ℕ) (l : List ℕ) → take (a + n - a) (drop a l) ≡ part l a n
-span a n l = let e : a + n - a ≡ n = omega arith in rw e
+-- ---- rooms
 
 pub is-value : (token : ℕ) → (token ≡ 0 → ⊥) → token < 0xA0 → isValue token ≡ true
 is-value token h l = rw (ne-eqb token 0 h, lt-ltb token 0xA0 l)
 
-pub size-value : (token b : ℕ) → (token ≡ 0 → ⊥) → token < 0xA0 → sizeBy token b ≡ b
-size-value token b h l =
+pub room-value : (token b : ℕ) → (token ≡ 0 → ⊥) → token < 0xA0 → roomBy token b ≡ 6 + 5 * b
+room-value token b h l =
     let n : token ≡ 0xF2 → ⊥ = λ e. let q : ⊥ = omega arith in q in
-    rw (ne-eqb token 0xF2 n, ne-eqb token 0 h, lt-ltb token 0xA0 l)
+    rw (ne-eqb token 0xF2 n, ne-eqb token 0 h, lt-ltb token 0xA0 l) (omega arith)
 
-pub size-chunk : (token b : ℕ) → token ≡ 0xF2 → sizeBy token b ≡ 2 * b
-size-chunk token b e = rw e
-
-pub close-one : (q : ℕ) → q ≡ 1 → 65540 ∷ [] ≡ closeBy q
-unfolding mark
-close-one q e = rw e
-
-pub close-none : (q : ℕ) → (q ≡ 1 → ⊥) → [] ≡ closeBy q
-close-none q h = rw (ne-eqb q 1 h)
+pub room-chunk : (token b : ℕ) → token ≡ 0xF2 → roomBy token b ≡ 2 + b
+room-chunk token b e = rw e
 
 pub close-few : (q : ℕ) → length (closeBy q) ≤ 1
 close-few q = go (eqb q 1)
@@ -41,139 +38,255 @@ close-few q = go (eqb q 1)
     go true = omega arith
     go false = omega arith
 
-module _ (doc qnames classes : List ℕ) (q token a b : ℕ) where
-  pub value-skipped : q ≡ 2 → [] ≡ valueBy doc qnames classes q token a b
-  unfolding valueBy
-  value-skipped e = rw (eq-eqb q 2 e) (go (eqb token 0x8C) (isValue token))
-    where
-      go : (s t : Bool) → [] ≡ cond s (cond true [] (mark 2 (pairOf qnames classes a) ∷ []))
-          (cond t (cond true [] (valueCodes token (part doc a b) (textOf token (part doc a b)))) [])
-      go true t = refl
-      go false true = refl
-      go false false = refl
+pub part-few : (doc : List ℕ) (a n : ℕ) → length (take (a + n - a) (drop a doc)) ≤ n
+part-few doc a n = simp length-take (omega arith)
 
-  module _ (h : q ≡ 2 → ⊥) where
-    pub value-qname : token ≡ 0x8C → mark 2 (pairOf qnames classes a) ∷ [] ≡ valueBy doc qnames classes q token a b
+pub span : (a n : ℕ) (l : List ℕ) → take (a + n - a) (drop a l) ≡ part l a n
+span a n l = let e : a + n - a ≡ n = omega arith in rw e
+
+-- ---- the walk's numbers after a row
+
+pub row-as : {row row′ : List ℕ} {q q′ d d′ : ℕ} {l l′ : List ℕ} {p r : Progress} → row ≡ row′ → q ≡ q′ → d ≡ d′ → RowPut row q d l p l′ r → RowPut row′ q′ d′ l p l′ r
+row-as e f g w = rw (← e, ← f, ← g) w
+
+pub row-none : (l : List ℕ) (p r : Progress) (q d : ℕ) → r ≡ record { at = p .at; hash = p .hash; records = p .records; depth = d; attribute = q } → RowPut [] q d l p l r
+unfolding hashFrom
+row-none l p r q d e = rw e (record { put = put-none l (p .at); hash-is = refl; records-are = refl; depth-is = refl; attribute-is = refl })
+
+pub row-hashed : {l l′ xs : List ℕ} {p : Progress} {j i : Cursor} (q d : ℕ) → j ≡ cursorOf p → PutHashed l j xs l′ i → (r : Progress)
+    → r ≡ record { at = i .at; hash = i .hash; records = p .records; depth = d; attribute = q } → RowPut xs q d l p l′ r
+row-hashed q d e k r f =
+    let m = rw e at k in
+    rw f (record { put = m .put; hash-is = m .hash-is; records-are = refl; depth-is = refl; attribute-is = refl })
+
+-- ---- inside and outside of a record
+
+pub out-none : (depth : ℕ) (l : List ℕ) → depth ≡ 0 → [] ≡ unlessOut depth l
+out-none depth l e = rw (eq-eqb depth 0 e)
+
+pub out-in : (depth : ℕ) {l l′ : List ℕ} → (depth ≡ 0 → ⊥) → l ≡ l′ → l ≡ unlessOut depth l′
+out-in depth h e = rw (ne-eqb depth 0 h) e
+
+-- outside of a record nothing is written
+pub out-row : (l : List ℕ) (p r : Progress) (row : List ℕ) (q d : ℕ) → p .depth ≡ 0 → r ≡ record { at = p .at; hash = p .hash; records = p .records; depth = d; attribute = q }
+    → RowPut (unlessOut (p .depth) row) q d l p l r
+out-row l p r row q d e f = row-as (out-none (p .depth) row e) refl refl (row-none l p r q d f)
+
+pub close-out : (l : List ℕ) (p : Progress) (row : List ℕ) → p .depth ≡ 0 → RowPut (unlessOut (p .depth) row) (p .attribute) (p .depth - 1) l p l p
+close-out l p row e = row-as refl refl (let f : p .depth ≡ p .depth - 1 = omega arith in f) (out-row l p p row (p .attribute) (p .depth) e refl)
+
+out-nothing : (depth : ℕ) → [] ≡ unlessOut depth []
+out-nothing depth = go (eqb depth 0)
+  where
+    go : (t : Bool) → [] ≡ cond {A = List ℕ} t [] []
+    go true = refl
+    go false = refl
+
+-- ---- marks
+
+pub end-mark : 65539 ∷ [] ≡ mark 3 0 ∷ []
+unfolding mark
+end-mark = refl
+
+pub opened-is : (marks : List ℕ) (row x : ℕ) → x ≡ getD marks (row - 1) 0 % 2147483648 → x ∷ [] ≡ openingIn marks row ∷ []
+unfolding openingIn
+opened-is marks row x e = rw e
+
+pub close-one : (q : ℕ) → q ≡ 1 → 65540 ∷ [] ≡ closeBy q
+unfolding mark
+close-one q e = rw e
+
+pub close-none : (q : ℕ) → (q ≡ 1 → ⊥) → [] ≡ closeBy q
+close-none q h = rw (ne-eqb q 1 h)
+
+module _ (marks : List ℕ) (row m : ℕ) (e : m ≡ getD marks (row - 1) 0) where
+  pub declared-number : (r : ℕ) → r ≡ cond (leb 2147483648 m) 2 1 → r ≡ cond (declaredIn marks row) 2 1
+  unfolding declaredIn
+  declared-number r f = f ∙ rw (← e)
+
+  pub declared-two : 2147483648 ≤ m → _≡_ {A = ℕ} 2 (cond (declaredIn marks row) 2 1)
+  unfolding declaredIn
+  declared-two h = rw (← e, le-leb 2147483648 m h)
+
+  pub declared-bare : (l : List ℕ) → 2147483648 ≤ m → l ≡ l ++ cond (declaredIn marks row) [] ((openingIn marks row + 1) ∷ [])
+  unfolding declaredIn
+  declared-bare l h = rw (← e, le-leb 2147483648 m h) (sym (append-nil l))
+
+  pub counted-one : m < 2147483648 → _≡_ {A = ℕ} 1 (cond (declaredIn marks row) 2 1)
+  unfolding declaredIn
+  counted-one h = rw (← e, lt-leb 2147483648 m h)
+
+  pub counted-mark : (l : List ℕ) → m < 2147483648 → l ++ ((m + 1) ∷ []) ≡ l ++ cond (declaredIn marks row) [] ((openingIn marks row + 1) ∷ [])
+  unfolding declaredIn openingIn
+  counted-mark l h = let f : m % 2147483648 ≡ m = omega arith in rw (← e, lt-leb 2147483648 m h, f)
+
+-- ---- values
+
+module _ (doc marks : List ℕ) (token a b : ℕ) where
+  pub counted-qname : (x : ℕ) → x ≡ getD marks (a - 1) 0 → token ≡ 0x8C → (x % 2147483648 + 2) ∷ [] ≡ countedBy doc marks token a b
+  unfolding countedBy openingIn
+  counted-qname x f e = rw (f, e)
+
+  pub counted-zero : token ≡ 0 → [] ≡ countedBy doc marks token a b
+  unfolding countedBy
+  counted-zero e = rw e
+
+  pub counted-value : (token ≡ 0x8C → ⊥) → (token ≡ 0 → ⊥) → token < 0xA0
+      → valueCodes token (take (a + b - a) (drop a doc)) (textOf token (take (a + b - a) (drop a doc))) ≡ countedBy doc marks token a b
+  unfolding countedBy
+  counted-value g f l = rw span (rw (ne-eqb token 0x8C g, ne-eqb token 0 f, lt-ltb token 0xA0 l))
+
+  module _ (q : ℕ) where
+    pub value-skipped : q ≡ 2 → [] ≡ valueBy doc marks q token a b
     unfolding valueBy
-    value-qname e = rw (eq-eqb token 0x8C e, ne-eqb q 2 h)
+    value-skipped e = rw (eq-eqb q 2 e)
 
-    module _ (g : token ≡ 0x8C → ⊥) where
-      pub value-zero : token ≡ 0 → [] ≡ valueBy doc qnames classes q token a b
-      unfolding valueBy
-      value-zero e = rw e
+    pub value-counted : (q ≡ 2 → ⊥) → countedBy doc marks token a b ≡ valueBy doc marks q token a b
+    unfolding valueBy
+    value-counted h = rw (ne-eqb q 2 h)
 
-      pub value-high : (token ≡ 0 → ⊥) → 0xA0 ≤ token → [] ≡ valueBy doc qnames classes q token a b
-      unfolding valueBy
-      value-high f l = rw (ne-eqb token 0x8C g, ne-eqb token 0 f, le-ltb token 0xA0 l)
+    value-none : (token ≡ 0x8C → ⊥) → 0xA0 ≤ token → valueBy doc marks q token a b ≡ []
+    unfolding valueBy countedBy
+    value-none g l =
+        let z : token ≡ 0 → ⊥ = λ e. let x : ⊥ = omega arith in x in
+        rw (ne-eqb token 0x8C g, ne-eqb token 0 z, le-ltb token 0xA0 l) (go (eqb q 2))
+      where
+        go : (t : Bool) → cond {A = List ℕ} t [] [] ≡ []
+        go true = refl
+        go false = refl
 
-      pub value-low : (token ≡ 0 → ⊥) → token < 0xA0
-          → valueCodes token (take (a + b - a) (drop a doc)) (textOf token (take (a + b - a) (drop a doc))) ≡ valueBy doc qnames classes q token a b
-      unfolding valueBy
-      value-low f l = rw span (rw (ne-eqb token 0x8C g, ne-eqb token 0 f, lt-ltb token 0xA0 l, ne-eqb q 2 h))
+-- the mark of a value without text, and those of its bytes
+pub value-put : (token v : ℕ) (p : List ℕ) → v ≡ token → (65541 + 8 * v) ∷ map (mark 6) p ≡ mark 5 token ∷ map (mark 6) p
+unfolding mark
+value-put token v p e = let f : 65541 + 8 * v ≡ 65536 + 8 * token + 5 = omega (arith, e) in rw f
 
-  module _ (after : ℕ) where
-    pub codes-F6 : token ≡ 0xF6 → closeBy q ++ cond (eqb after 1) (mark 1 (pairOf qnames classes a) ∷ []) [] ≡ codesBy doc qnames classes q after token a b
-    unfolding codesBy
-    codes-F6 e = rw e
+-- ---- rows by their token
 
-    pub codes-F5 : token ≡ 0xF5 → closeBy q ≡ codesBy doc qnames classes q after token a b
-    unfolding codesBy
-    codes-F5 e = rw e
+module _ (doc marks : List ℕ) (depth q token a b : ℕ) where
+  pub row-open : token ≡ 0xF8 → openingIn marks a ∷ [] ≡ rowBy doc marks depth q token a b
+  unfolding rowBy
+  row-open e = rw e
 
-    pub codes-F7 : token ≡ 0xF7 → 65539 ∷ [] ≡ codesBy doc qnames classes q after token a b
-    unfolding codesBy mark
-    codes-F7 e = rw e
+  pub row-F7 : token ≡ 0xF7 → unlessOut depth (mark 3 0 ∷ []) ≡ rowBy doc marks depth q token a b
+  unfolding rowBy codesBy
+  row-F7 e = rw e
 
-    pub codes-F2 : token ≡ 0xF2 → unitsOf (take (a + 2 * b - a) (drop a doc)) ≡ codesBy doc qnames classes q after token a b
-    unfolding codesBy
-    codes-F2 e = ap unitsOf (span a (2 * b) doc) ∙ rw e
+  pub row-F6 : token ≡ 0xF6 → unlessOut depth (closeBy q ++ cond (declaredIn marks a) [] ((openingIn marks a + 1) ∷ [])) ≡ rowBy doc marks depth q token a b
+  unfolding rowBy codesBy
+  row-F6 e = rw e
 
-    pub codes-other : (token ≡ 0xF8 → ⊥) → (token ≡ 0xF6 → ⊥) → (token ≡ 0xF5 → ⊥) → (token ≡ 0xF7 → ⊥) → (token ≡ 0xF2 → ⊥)
-        → valueBy doc qnames classes q token a b ≡ codesBy doc qnames classes q after token a b
-    unfolding codesBy
-    codes-other h0 h1 h2 h3 h4 = rw (ne-eqb token 0xF8 h0, ne-eqb token 0xF6 h1, ne-eqb token 0xF5 h2, ne-eqb token 0xF7 h3, ne-eqb token 0xF2 h4)
+  pub row-F5 : token ≡ 0xF5 → unlessOut depth (closeBy q) ≡ rowBy doc marks depth q token a b
+  unfolding rowBy codesBy
+  row-F5 e = rw e
 
-    module _ (depth : ℕ) where
-      pub row-open : token ≡ 0xF8 → mark 0 (pairOf qnames classes a) ∷ [] ≡ rowBy doc qnames classes depth q after token a b
-      unfolding rowBy codesBy
-      row-open e = rw e (go (eqb depth 0))
-        where
-          go : (s : Bool) → mark 0 (pairOf qnames classes a) ∷ [] ≡ cond (cond s true true) (mark 0 (pairOf qnames classes a) ∷ []) []
-          go true = refl
-          go false = refl
+  pub row-F2 : token ≡ 0xF2 → unlessOut depth (unitsOf (part doc a (2 * b))) ≡ rowBy doc marks depth q token a b
+  unfolding rowBy codesBy
+  row-F2 e = rw e
 
-      pub row-out : (token ≡ 0xF8 → ⊥) → depth ≡ 0 → [] ≡ rowBy doc qnames classes depth q after token a b
-      unfolding rowBy
-      row-out h e = rw (eq-eqb depth 0 e, ne-eqb token 0xF8 h)
+  row-other : (token ≡ 0xF8 → ⊥) → (token ≡ 0xF6 → ⊥) → (token ≡ 0xF5 → ⊥) → (token ≡ 0xF7 → ⊥) → (token ≡ 0xF2 → ⊥)
+      → unlessOut depth (valueBy doc marks q token a b) ≡ rowBy doc marks depth q token a b
+  unfolding rowBy codesBy
+  row-other h0 h1 h2 h3 h4 = rw (ne-eqb token 0xF8 h0, ne-eqb token 0xF6 h1, ne-eqb token 0xF5 h2, ne-eqb token 0xF7 h3, ne-eqb token 0xF2 h4)
 
-      pub row-in : (depth ≡ 0 → ⊥) → codesBy doc qnames classes q after token a b ≡ rowBy doc qnames classes depth q after token a b
-      unfolding rowBy
-      row-in h = rw (ne-eqb depth 0 h)
+  pub row-value : token < 0xA0 → unlessOut depth (valueBy doc marks q token a b) ≡ rowBy doc marks depth q token a b
+  row-value l =
+      row-other (λ e. let x : ⊥ = omega arith in x) (λ e. let x : ⊥ = omega arith in x) (λ e. let x : ⊥ = omega arith in x)
+      (λ e. let x : ⊥ = omega arith in x) (λ e. let x : ⊥ = omega arith in x)
 
--- ---- depth, attribute, records
+  pub row-silent : 0xA0 ≤ token → (token ≡ 0xF8 → ⊥) → (token ≡ 0xF6 → ⊥) → (token ≡ 0xF5 → ⊥) → (token ≡ 0xF7 → ⊥) → (token ≡ 0xF2 → ⊥)
+      → [] ≡ rowBy doc marks depth q token a b
+  row-silent l h0 h1 h2 h3 h4 =
+      let g : token ≡ 0x8C → ⊥ = λ e. let x : ⊥ = omega arith in x in
+      out-nothing depth ∙ ap (unlessOut depth) (sym (value-none doc marks token a b q g l)) ∙ row-other h0 h1 h2 h3 h4
+
+module _ (marks : List ℕ) (q token a : ℕ) where
+  pub attribute-F6 : token ≡ 0xF6 → cond (declaredIn marks a) 2 1 ≡ attributeBy marks q token a
+  unfolding attributeBy
+  attribute-F6 e = rw e
+
+  pub attribute-F5 : token ≡ 0xF5 → 0 ≡ attributeBy marks q token a
+  unfolding attributeBy
+  attribute-F5 e = rw e
+
+  pub attribute-stays : (token ≡ 0xF6 → ⊥) → (token ≡ 0xF5 → ⊥) → q ≡ attributeBy marks q token a
+  unfolding attributeBy
+  attribute-stays h g = rw (ne-eqb token 0xF6 h, ne-eqb token 0xF5 g)
 
 module _ (depth token : ℕ) where
   pub depth-more : token ≡ 0xF8 → depth + 1 ≡ depthBy depth token
   depth-more e = rw e
 
-  module _ (h : token ≡ 0xF8 → ⊥) where
-    pub depth-same : (token ≡ 0xF7 → ⊥) → depth ≡ depthBy depth token
-    depth-same g = rw (ne-eqb token 0xF8 h, ne-eqb token 0xF7 g)
+  pub depth-less : token ≡ 0xF7 → depth - 1 ≡ depthBy depth token
+  depth-less e = rw e
 
-    pub depth-less : token ≡ 0xF7 → depth - 1 ≡ depthBy depth token
-    depth-less e = rw e
+  pub depth-same : (token ≡ 0xF8 → ⊥) → (token ≡ 0xF7 → ⊥) → depth ≡ depthBy depth token
+  depth-same h g = rw (ne-eqb token 0xF8 h, ne-eqb token 0xF7 g)
 
-  pub begins-not : (token ≡ 0xF8 → ⊥) → (at : ℕ) → [] ≡ cond (beginsBy depth token) (at ∷ []) []
-  begins-not h at = rw (ne-eqb token 0xF8 h)
+-- tokens that differ
+pub low-apart : (token x : ℕ) → token < 0xA0 → 0xA0 ≤ x → token ≡ x → ⊥
+low-apart token x l h e = omega arith
 
-  pub begins-deep : token ≡ 0xF8 → (depth ≡ 0 → ⊥) → (at : ℕ) → [] ≡ cond (beginsBy depth token) (at ∷ []) []
-  begins-deep e h at = rw (eq-eqb token 0xF8 e, ne-eqb depth 0 h)
+pub apart : (token x y : ℕ) → token ≡ x → (x ≡ y → ⊥) → token ≡ y → ⊥
+apart token x y e h f = h (sym e ∙ f)
 
-  pub begins-here : token ≡ 0xF8 → depth ≡ 0 → (at : ℕ) → at ∷ [] ≡ cond (beginsBy depth token) (at ∷ []) []
-  begins-here e h at = rw (eq-eqb token 0xF8 e, eq-eqb depth 0 h)
+-- ---- where a record begins
 
-module _ (doc names qnames : List ℕ) (rows q token a : ℕ) where
-  pub attribute-skips : token ≡ 0xF6 → true ≡ declaresAt doc names qnames rows a → 2 ≡ attributeBy doc names qnames rows q token a
-  unfolding attributeBy
-  attribute-skips e d = rw (e, ← d)
+pub begun-deep : (starts hashes : List ℕ) (p : Progress) → (p .depth ≡ 0 → ⊥) → Begun starts hashes p starts hashes p
+begun-deep starts hashes p h =
+    let f : eqb (p .depth) 0 ≡ false = ne-eqb (p .depth) 0 h in
+    record {
+      starts-are = rw f (put-none starts (p .records));
+      hashes-are = rw f (put-none hashes (p .records));
+      at-is = refl;
+      hash-is = rw f;
+      depth-is = refl;
+      attribute-is = refl;
+    }
 
-  pub attribute-counts : token ≡ 0xF6 → false ≡ declaresAt doc names qnames rows a → 1 ≡ attributeBy doc names qnames rows q token a
-  unfolding attributeBy
-  attribute-counts e d = rw (e, ← d)
+pub begun-here : (starts hashes : List ℕ) (p : Progress) → p .depth ≡ 0
+    → Begun starts hashes p (set starts (p .records) (p .at)) (set hashes (p .records) (p .hash))
+    (record { at = p .at; hash = 88172645463325252; records = p .records + 1; depth = p .depth; attribute = p .attribute })
+begun-here starts hashes p e =
+    let f : eqb (p .depth) 0 ≡ true = eq-eqb (p .depth) 0 e in
+    record {
+      starts-are = rw f (put-set starts (p .records) (p .at));
+      hashes-are = rw f (put-set hashes (p .records) (p .hash));
+      at-is = refl;
+      hash-is = rw f;
+      depth-is = refl;
+      attribute-is = refl;
+    }
 
-  pub attribute-ends : token ≡ 0xF5 → 0 ≡ attributeBy doc names qnames rows q token a
-  unfolding attributeBy
-  attribute-ends e = rw e
+-- ---- a whole row
 
-  pub attribute-stays : (token ≡ 0xF6 → ⊥) → (token ≡ 0xF5 → ⊥) → q ≡ attributeBy doc names qnames rows q token a
-  unfolding attributeBy
-  attribute-stays h g = rw (ne-eqb token 0xF6 h, ne-eqb token 0xF5 g)
+module _ (doc : List ℕ) {marks : List ℕ} {token a : ℕ} (b : ℕ) {syms starts hashes syms′ starts′ hashes′ : List ℕ} {p r : Progress} where
+  pub done-open : {o : Progress} → token ≡ 0xF8 → Begun starts hashes p starts′ hashes′ o → RowPut (openingIn marks a ∷ []) (o .attribute) (o .depth + 1) syms o syms′ r
+      → RowDone doc marks token a b syms starts hashes p syms′ starts′ hashes′ r
+  done-open {o} e g w =
+      let f : eqb token 0xF8 ≡ true = eq-eqb token 0xF8 e in
+      let x : openingIn marks a ∷ [] ≡ rowBy doc marks (p .depth) (p .attribute) token a b = row-open doc marks (p .depth) (p .attribute) token a b e in
+      let n : r .records ≡ o .records = w .records-are in
+      let na : token ≡ 0xF6 → ⊥ = λ i. let q : ⊥ = omega arith in q in
+      let nb : token ≡ 0xF5 → ⊥ = λ i. let q : ⊥ = omega arith in q in
+      record {
+        symbols = rw (← g .at-is) (put-as x (w .put));
+        starts-are = rw (f, n) (g .starts-are);
+        hashes-are = rw (f, n) (g .hashes-are);
+        depth-is = w .depth-is ∙ ap (λ (y : ℕ). y + 1) (g .depth-is) ∙ depth-more (p .depth) token e;
+        attribute-is = w .attribute-is ∙ g .attribute-is ∙ attribute-stays marks (p .attribute) token a na nb;
+        hash-is = rw (f, ← g .hash-is, ← x) (w .hash-is);
+      }
 
--- ---- what the writers store
-
-pub attribute-marked : (q after x : ℕ) → after ≡ 1 → closeBy q ++ (x ∷ []) ≡ closeBy q ++ cond (eqb after 1) (x ∷ []) []
-attribute-marked q after x e = ap (λ (l : List ℕ). closeBy q ++ l) (rw (eq-eqb after 1 e))
-
-pub attribute-bare : (q after x : ℕ) → (after ≡ 1 → ⊥) → closeBy q ≡ closeBy q ++ cond (eqb after 1) (x ∷ []) []
-attribute-bare q after x h =
-    let e : [] ≡ cond (eqb after 1) (x ∷ []) [] = rw (ne-eqb after 1 h) in
-    sym (append-nil (closeBy q)) ∙ ap (λ (l : List ℕ). closeBy q ++ l) e
-
-pub named-mark : (kind x p : ℕ) → p ≡ x → (65536 + 8 * p + kind) ∷ [] ≡ mark kind x ∷ []
-unfolding mark
-named-mark kind x p e = rw e
-
-pub value-put : (token v : ℕ) (p : List ℕ) → v ≡ token → (65541 + 8 * v) ∷ map (mark 6) p ≡ mark 5 token ∷ map (mark 6) p
-unfolding mark
-value-put token v p e = let f : 65541 + 8 * v ≡ 65536 + 8 * token + 5 = omega (arith, e) in rw f
-
-pub part-few : (doc : List ℕ) (a n : ℕ) → length (take (a + n - a) (drop a doc)) ≤ n
-part-few doc a n = simp length-take (omega arith)
-
-pub depth-zero : (depth token : ℕ) → (token ≡ 0xF8 → ⊥) → token ≡ 0xF7 → depth ≡ 0 → 0 ≡ depthBy depth token
-depth-zero depth token h e z = let f : 0 ≡ depth - 1 = omega arith in f ∙ depth-less depth token h e
-
-pub pair-is : (qnames classes : List ℕ) (row u v : ℕ) → u ≡ classAt classes (getD qnames (3 * (row - 1)) 0)
-    → v ≡ classAt classes (getD qnames (3 * (row - 1) + 2) 0) → 1025 * u + v ≡ pairOf qnames classes row
-unfolding pairOf
-pair-is qnames classes row u v e f = rw (e, f)
+module _ (doc : List ℕ) {marks : List ℕ} {token a : ℕ} (b : ℕ) {syms syms′ : List ℕ} (starts hashes : List ℕ) {p r : Progress} where
+  pub done-inner : (token ≡ 0xF8 → ⊥) → RowPut (rowBy doc marks (p .depth) (p .attribute) token a b) (attributeBy marks (p .attribute) token a) (depthBy (p .depth) token) syms p syms′ r
+      → RowDone doc marks token a b syms starts hashes p syms′ starts hashes r
+  done-inner h w =
+      let f : eqb token 0xF8 ≡ false = ne-eqb token 0xF8 h in
+      record {
+        symbols = w .put;
+        starts-are = rw (f, w .records-are) (put-none starts (p .records));
+        hashes-are = rw (f, w .records-are) (put-none hashes (p .records));
+        depth-is = w .depth-is;
+        attribute-is = w .attribute-is;
+        hash-is = rw f (w .hash-is);
+      }

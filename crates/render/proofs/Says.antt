@@ -1,33 +1,36 @@
 -- A row of events adds the numbers of its event's symbols. Assumes nothing.
-use Prim.Native.Nat.{ℕ, _+_, _*_, _≤_, _<_}
+use Prim.Native.Nat.{ℕ, _+_, _-_, _*_, _%_, _≤_, _<_}
 use mathlib.Core.Path.{_≡_, refl, sym, _∙_, ap}
 use mathlib.Core.Logic.{_⊎_, inl, inr}
 use mathlib.Core.Bool.{Bool, true, false, cond}
 use mathlib.Core.Option.{Option, none, some}
 use mathlib.Core.List.{List, [], _∷_, _++_, map, append-nil}
 use native.Mathlib.Omega.{arith}
-use lib.Dec.{eqb}
-use lib.ListN.{length, length-append, length-map, length-take}
-use borrow.Author.Tests.{eqb-true, eq-eqb, ne-eqb}
+use lib.Dec.{eqb, leb}
+use lib.ListN.{length, getD, length-append, length-map, length-take}
+use borrow.Author.Tests.{eqb-true, eq-eqb, ne-eqb, leb-true, leb-false}
 use Rattle.lists.specs.Lists.{Bytes, part, unitsOf}
 use Rattle.lists.proofs.Units.{bytes-take, bytes-drop}
 use Rattle.token.specs.Tokens.{classOf, shapeOf}
 use Rattle.token.specs.declared.Class.the-variants as class
+use Rattle.value.specs.Rules.{lawful}
 use Rattle.reader.specs.Rows.{EventRow, event}
 use Rattle.reader.specs.Events.{Event, texted, qnamed, valued, plain, eventBy, eventOf}
 use Rattle.reader.specs.Facts as facts
 use Rattle.reader.specs.Facts.{textTokens, qnameTokens, bareTokens, EventFits}
 use Rattle.text.specs.Text.{textOf}
-use Rattle.text.proofs.Lengths.{text-short}
 use Rattle.classes.specs.Tables.{nameRowsIn, qnameRowsIn}
 use Rattle.meaning.specs.Meaning.{Symbol, Attribute, none-open, counted, skipped, unit, attribute, value, qname, declares, closed, unless, shownAs, namedSymbols, plainSymbols, symbolsOf, attributeAfter, opens, closes}
 use Rattle.meaning.specs.Codes.{mark, both, codesOf}
 use Rattle.meaning.proofs.Codes.{codes-append}
-use Rattle.render.specs.Render.{Drawable, classIn}
-use Rattle.render.specs.Codes.{attributeOf, uriAt, prefixAt, localAt, pairOf, Named, declaresAt, valueCodes, isValue, closeBy, valueBy, codesBy, attributeBy, sizeBy, RowFits}
+use Rattle.render.specs.Render.{Renderable, classIn}
+use Rattle.render.specs.Codes.{attributeOf, uriAt, prefixAt, localAt, pairOf, Named, declaresAt, valueCodes, isValue, openingIn, declaredIn, closeBy, countedBy, valueBy, codesBy, rowBy, attributeBy, roomBy, RowFits}
+use Rattle.render.specs.Marks.{MarksOf}
 use Rattle.render.proofs.Rows.{close-few, is-value}
-use Rattle.render.proofs.Texts.{units-few}
-use Rattle.render.proofs.Tokens.{one-of, value-code, not-qname, text-there, payload-there}
+use Rattle.render.proofs.Rooms.{text-room}
+use Rattle.render.proofs.MarkLaws.{mark-opening, mark-attribute, mark-declares, mark-counts, mark-qname}
+use Rattle.render.proofs.Texts.{units-long}
+use Rattle.render.proofs.Tokens.{one-of, value-code, not-qname, text-there, payload-there, payload-lawful}
 use Rattle.render.proofs.Names.{named-row, named-event, pair-both}
 
 no-way : {A : Type 0} → false ≡ true → A
@@ -65,76 +68,82 @@ module _ (cls : List ℕ → ℕ) where
       go false true e f = refl
       go false false e f = refl
 
-  codes-attribute : (q x : ℕ) (d : Bool) (u l : List ℕ) → both cls u l ≡ x
-      → codesOf cls (closed (attributeOf q) ++ cond d [] (attribute u l ∷ [])) ≡ closeBy q ++ cond (eqb (cond d 2 1) 1) (mark 1 x ∷ []) []
+  codes-attribute : (q x : ℕ) (d t : Bool) (u l : List ℕ) → d ≡ t → (d ≡ false → mark 1 (both cls u l) ≡ x)
+      → codesOf cls (closed (attributeOf q) ++ cond d [] (attribute u l ∷ [])) ≡ closeBy q ++ cond t [] (x ∷ [])
   unfolding codesOf
-  codes-attribute q x d u l e = codes-append cls (closed (attributeOf q)) (cond d [] (attribute u l ∷ [])) ∙ rw (codes-closed q) (ap (λ (z : List ℕ). closeBy q ++ z) (go d))
+  codes-attribute q x d t u l i e =
+      codes-append cls (closed (attributeOf q)) (cond d [] (attribute u l ∷ [])) ∙ rw (codes-closed q) (ap (λ (z : List ℕ). closeBy q ++ z) (rw (← i) (go d e)))
     where
-      go : (d : Bool) → codesOf cls (cond d [] (attribute u l ∷ [])) ≡ cond (eqb (cond d 2 1) 1) (mark 1 x ∷ []) []
-      go true = refl
-      go false = rw e
+      go : (d : Bool) → (d ≡ false → mark 1 (both cls u l) ≡ x) → codesOf cls (cond d [] (attribute u l ∷ [])) ≡ cond d [] (x ∷ [])
+      go true e = refl
+      go false e = rw (e refl)
 
 -- ---- how many numbers
 
-module _ (doc qnames classes : List ℕ) (bytes : Bytes doc) where
+module _ (doc marks : List ℕ) (bytes : Bytes doc) where
   part-long : (a n : ℕ) → length (part doc a n) ≤ n
   part-long a n = simp length-take (omega arith)
 
-  value-few : (token a b : ℕ) (t : Option (List ℕ)) → textOf token (part doc a b) ≡ t → length (valueCodes token (part doc a b) t) ≤ 43 + 2 * b
+  value-few : (token a b : ℕ) (t : Option (List ℕ)) → textOf token (part doc a b) ≡ t → length (valueCodes token (part doc a b) t) ≤ 6 + 5 * b
   value-few token a b none e =
       let l : length (map (mark 6) (part doc a b)) ≡ length (part doc a b) = length-map (part doc a b) (mark 6) in
       omega (arith, part-long a b)
   value-few token a b (some us) e =
-      let l : length us ≤ 41 + 2 * length (part doc a b) = text-short token (part doc a b) us (bytes-take b (bytes-drop a bytes)) e in
+      let l : length us ≤ 6 + 5 * length (part doc a b) = text-room token (part doc a b) us (bytes-take b (bytes-drop a bytes)) e in
       omega (arith, part-long a b)
 
-  pub codes-few : (q after token a b : ℕ) → length (codesBy doc qnames classes q after token a b) ≤ 43 + 2 * sizeBy token b
-  unfolding codesBy valueBy
-  codes-few q after token a b =
-      go (eqb token 0xF8) (eqb token 0xF6) (eqb token 0xF5) (eqb token 0xF7) (eqb token 0xF2) (eqb token 0x8C) (isValue token)
+  codes-few : (q token a b : ℕ) → length (codesBy doc marks q token a b) ≤ roomBy token b
+  unfolding codesBy valueBy countedBy
+  codes-few q token a b =
+      go (eqb token 0xF8) (eqb token 0xF6) (eqb token 0xF5) (eqb token 0xF7) (eqb token 0xF2) (eqb q 2) (eqb token 0x8C) (isValue token)
     where
-      two : (n : ℕ) → length (closeBy q ++ cond (eqb after 1) (mark 1 (pairOf qnames classes a) ∷ []) []) ≤ 43 + n
-      two n = simp length-append (omega (arith, close-few q, close-few′ (eqb after 1)))
+      two : (n : ℕ) → length (closeBy q ++ cond (declaredIn marks a) [] ((openingIn marks a + 1) ∷ [])) ≤ 2 + n
+      two n = simp length-append (omega (arith, close-few q, one (declaredIn marks a)))
         where
-          close-few′ : (t : Bool) → length (cond t (mark 1 (pairOf qnames classes a) ∷ []) []) ≤ 1
-          close-few′ true = omega arith
-          close-few′ false = omega arith
+          one : (t : Bool) → length (cond t [] ((openingIn marks a + 1) ∷ [])) ≤ 1
+          one true = omega arith
+          one false = omega arith
 
-      chunk : length (unitsOf (part doc a (2 * b))) ≤ 43 + 2 * (2 * b)
-      chunk = let u = units-few (part doc a (2 * b)) in omega (arith, part-long a (2 * b))
+      chunk : length (unitsOf (part doc a (2 * b))) ≤ 2 + b
+      chunk = let u = units-long (part doc a (2 * b)) in omega (arith, u .0, part-long a (2 * b))
 
-      name : (t : Bool) (n : ℕ) → length (cond t [] (mark 2 (pairOf qnames classes a) ∷ [])) ≤ 43 + n
-      name true n = omega arith
-      name false n = omega arith
+      shown : length (valueCodes token (part doc a b) (textOf token (part doc a b))) ≤ 2 + (4 + 5 * b)
+      shown = let v = value-few token a b (textOf token (part doc a b)) refl in omega arith
 
-      shown : (t : Bool) → length (cond t [] (valueCodes token (part doc a b) (textOf token (part doc a b)))) ≤ 43 + 2 * b
-      shown true = omega arith
-      shown false = value-few token a b (textOf token (part doc a b)) refl
-
-      go : (s t u v w x y : Bool) → length (cond s (mark 0 (pairOf qnames classes a) ∷ []) (cond t (closeBy q ++ cond (eqb after 1) (mark 1 (pairOf qnames classes a) ∷ []) [])
+      go : (s t u v w x y z : Bool) → length (cond s (openingIn marks a ∷ []) (cond t (closeBy q ++ cond (declaredIn marks a) [] ((openingIn marks a + 1) ∷ []))
           (cond u (closeBy q) (cond v (mark 3 0 ∷ []) (cond w (unitsOf (part doc a (2 * b)))
-          (cond x (cond (eqb q 2) [] (mark 2 (pairOf qnames classes a) ∷ []))
-          (cond y (cond (eqb q 2) [] (valueCodes token (part doc a b) (textOf token (part doc a b)))) []))))))) ≤ 43 + 2 * cond w (2 * b) (cond y b 0)
-      go true t u v w x y = omega arith
-      go false true u v w x y = two (2 * cond w (2 * b) (cond y b 0))
-      go false false true v w x y = omega (arith, close-few q)
-      go false false false true w x y = omega arith
-      go false false false false true x y = chunk
-      go false false false false false true y = name (eqb q 2) (2 * cond y b 0)
-      go false false false false false false true = shown (eqb q 2)
-      go false false false false false false false = omega arith
+          (cond x [] (cond y ((openingIn marks a + 2) ∷ []) (cond z (valueCodes token (part doc a b) (textOf token (part doc a b))) [])))))))) ≤ 2 + cond w b (cond z (4 + 5 * b) 0)
+      go true t u v w x y z = omega arith
+      go false true u v w x y z = two (cond w b (cond z (4 + 5 * b) 0))
+      go false false true v w x y z = omega (arith, close-few q)
+      go false false false true w x y z = omega arith
+      go false false false false true x y z = chunk
+      go false false false false false true y z = omega arith
+      go false false false false false false true z = omega arith
+      go false false false false false false false true = shown
+      go false false false false false false false false = omega arith
+
+  -- a row adds no more than its room
+  pub row-few : (depth q token a b : ℕ) → length (rowBy doc marks depth q token a b) ≤ roomBy token b
+  unfolding rowBy
+  row-few depth q token a b = go (eqb token 0xF8) (eqb depth 0)
+    where
+      go : (s t : Bool) → length (cond s (openingIn marks a ∷ []) (cond t [] (codesBy doc marks q token a b))) ≤ roomBy token b
+      go true t = omega arith
+      go false true = omega arith
+      go false false = codes-few q token a b
 
 -- ---- rows
 
-module _ {doc names qnames events classes : List ℕ} {rows qrows count : ℕ} (d : Drawable doc names qnames events classes rows qrows count) where
+module _ {doc names qnames events classes marks : List ℕ} {rows qrows count : ℕ} (d : Renderable doc names qnames events classes rows qrows count)
+    (M : MarksOf doc names qnames classes rows qrows marks) where
   pub record Says (e : EventRow) (ev : Event) : Type 0 where
     pub codes : (q : ℕ) → codesOf (classIn doc names rows) (symbolsOf (attributeOf q) ev)
-        ≡ codesBy doc qnames classes q (attributeBy doc names qnames rows q (e .token) (e .a)) (e .token) (e .a) (e .b)
-    pub after : (q : ℕ) → attributeAfter (attributeOf q) ev ≡ attributeOf (attributeBy doc names qnames rows q (e .token) (e .a))
+        ≡ codesBy doc marks q (e .token) (e .a) (e .b)
+    pub after : (q : ℕ) → attributeAfter (attributeOf q) ev ≡ attributeOf (attributeBy marks q (e .token) (e .a))
     pub opens-is : opens ev ≡ eqb (e .token) 0xF8
     pub closes-is : closes ev ≡ eqb (e .token) 0xF7
-    pub fits : RowFits (length doc) qnames classes (e .token) (e .a) (e .b)
-    pub named : e .token ≡ 0xF6 → Named doc names qnames classes rows (e .a)
+    pub fits : RowFits doc (e .token) (e .a) (e .b)
 
   -- an event that adds nothing, and a token that is none of those that count
   record Quiet (ev : Event) : Type 0 where
@@ -156,10 +165,10 @@ module _ {doc names qnames events classes : List ℕ} {rows qrows count : ℕ} (
   clash x k h e = no-way (sym h ∙ eq-eqb x k e)
 
   quiet : (x p a b : ℕ) (ev : Event) → Quiet ev → Other x → Says (event x p a b) ev
-  unfolding codesOf codesBy valueBy attributeBy
+  unfolding codesOf codesBy valueBy countedBy attributeBy
   quiet x p a b ev z o =
       record {
-        codes = λ q. rw (z .adds (attributeOf q), o .not-F8, o .not-F6, o .not-F5, o .not-F7, o .not-F2, o .not-8C, o .not-value);
+        codes = λ q. rw (z .adds (attributeOf q), o .not-F8, o .not-F6, o .not-F5, o .not-F7, o .not-F2, o .not-8C, o .not-value) (skip (eqb q 2));
         after = λ q. rw (o .not-F6, o .not-F5) (z .keeps (attributeOf q));
         opens-is = z .opens-not ∙ sym (o .not-F8);
         closes-is = z .closes-not ∙ sym (o .not-F7);
@@ -170,8 +179,11 @@ module _ {doc names qnames events classes : List ℕ} {rows qrows count : ℕ} (
           chunk = λ e. clash x 0xF2 (o .not-F2) e;
           value = λ e f. no-way (sym (o .not-value) ∙ e);
         };
-        named = λ e. clash x 0xF6 (o .not-F6) e;
       }
+    where
+      skip : (t : Bool) → [] ≡ cond {A = List ℕ} t [] []
+      skip true = refl
+      skip false = refl
 
   still : (ev : Event) → ((q : Attribute) → symbolsOf q ev ≡ []) → ((q : Attribute) → attributeAfter q ev ≡ q) → opens ev ≡ false → closes ev ≡ false → Quiet ev
   still ev a k o c = record { adds = a; keeps = k; opens-not = o; closes-not = c }
@@ -198,7 +210,6 @@ module _ {doc names qnames events classes : List ℕ} {rows qrows count : ℕ} (
           chunk = λ e. h;
           value = λ e f. no-way e;
         };
-        named = λ e. clash 0xF2 0xF6 refl e;
       }
 
   says-end : (p : ℕ) → Says (event 0xF7 p 0 0) (plain 0xF7)
@@ -216,7 +227,6 @@ module _ {doc names qnames events classes : List ℕ} {rows qrows count : ℕ} (
           chunk = λ e. clash 0xF7 0xF2 refl e;
           value = λ e f. no-way e;
         };
-        named = λ e. clash 0xF7 0xF6 refl e;
       }
 
   says-closing : (p : ℕ) → Says (event 0xF5 p 0 0) (plain 0xF5)
@@ -234,78 +244,84 @@ module _ {doc names qnames events classes : List ℕ} {rows qrows count : ℕ} (
           chunk = λ e. clash 0xF5 0xF2 refl e;
           value = λ e f. no-way e;
         };
-        named = λ e. clash 0xF5 0xF6 refl e;
       }
 
-  module _ (p a : ℕ) (n : Named doc names qnames classes rows a) where
+  module _ (p a : ℕ) (from : 1 ≤ a) (to : a ≤ qrows) where
     abbrev here : ℕ → Event
     here token = qnamed token (uriAt doc names qnames rows a) (prefixAt doc names qnames rows a) (localAt doc names qnames rows a)
 
+    n : Named doc names qnames classes rows a
+    n = named-row d a from to
+
+    index : (1 ≤ a) × (a ≤ 1024)
+    index = (from, omega (arith, d .qfew))
+
+    referred : (k : ℕ) → eqb k 0xF2 ≡ false → (isValue k ≡ true → (k ≡ 0x8C → ⊥) → ⊥) → RowFits doc k a 0
+    referred k h g =
+        record {
+          element = λ e. index;
+          attribute = λ e. index;
+          qname = λ e. index;
+          chunk = λ e. clash k 0xF2 h e;
+          value = λ e f. absurd (g e f);
+        }
+
     says-element : Says (event 0xF8 p a 0) (here 0xF8)
-    unfolding codesBy attributeBy namedSymbols codesOf
+    unfolding codesBy attributeBy namedSymbols codesOf openingIn
     says-element =
         record {
-          codes = λ q. ap (λ (x : ℕ). mark 0 x ∷ []) (pair-both n);
+          codes = λ q. ap (λ (x : ℕ). x ∷ []) (ap (mark 0) (pair-both n) ∙ sym (mark-opening M a from to _ refl));
           after = λ q. refl;
           opens-is = refl;
           closes-is = refl;
-          fits = record {
-            element = λ e. n .fits;
-            attribute = λ e. n .fits;
-            qname = λ e. n .fits;
-            chunk = λ e. clash 0xF8 0xF2 refl e;
-            value = λ e f. no-way e;
-          };
-          named = λ e. n;
+          fits = referred 0xF8 refl (λ e f. no-way e);
         }
 
+    declared-is : declares (uriAt doc names qnames rows a) (prefixAt doc names qnames rows a) (localAt doc names qnames rows a) ≡ declaredIn marks a
+    unfolding declaredIn declaresAt
+    declared-is = go (leb 2147483648 (getD marks (a - 1) 0)) refl
+      where
+        go : (t : Bool) → leb 2147483648 (getD marks (a - 1) 0) ≡ t → declaresAt doc names qnames rows a ≡ leb 2147483648 (getD marks (a - 1) 0)
+        go true e = mark-declares M a from to _ refl (leb-true _ _ e) ∙ sym e
+        go false e = mark-counts M a from to _ refl (leb-false _ _ e) ∙ sym e
+
     says-attribute : Says (event 0xF6 p a 0) (here 0xF6)
-    unfolding codesBy attributeBy namedSymbols declaresAt
+    unfolding codesBy attributeBy namedSymbols declaresAt openingIn
     says-attribute =
         record {
-          codes = λ q. codes-attribute (classIn doc names rows) q _ (declares (uriAt doc names qnames rows a) (prefixAt doc names qnames rows a) (localAt doc names qnames rows a)) _ _ (pair-both n);
-          after = λ q. turned (declares (uriAt doc names qnames rows a) (prefixAt doc names qnames rows a) (localAt doc names qnames rows a));
+          codes = λ q. codes-attribute (classIn doc names rows) q _ _ (declaredIn marks a) _ _ declared-is
+              (λ f. ap (mark 1) (pair-both n) ∙ one (mark-attribute M a from to _ refl f));
+          after = λ q. ap (λ (t : Bool). cond t skipped counted) declared-is ∙ turned (declaredIn marks a);
           opens-is = refl;
           closes-is = refl;
-          fits = record {
-            element = λ e. n .fits;
-            attribute = λ e. n .fits;
-            qname = λ e. n .fits;
-            chunk = λ e. clash 0xF6 0xF2 refl e;
-            value = λ e f. no-way e;
-          };
-          named = λ e. n;
+          fits = referred 0xF6 refl (λ e f. no-way e);
         }
       where
         turned : (t : Bool) → cond t skipped counted ≡ attributeOf (cond t 2 1)
         turned true = refl
         turned false = refl
 
+        one : (getD marks (a - 1) 0 < 2147483648) × (getD marks (a - 1) 0 + 1 ≡ mark 1 (pairOf qnames classes a)) → mark 1 (pairOf qnames classes a) ≡ getD marks (a - 1) 0 % 2147483648 + 1
+        one (h, e) = sym e ∙ (let f : getD marks (a - 1) 0 + 1 ≡ getD marks (a - 1) 0 % 2147483648 + 1 = omega arith in f)
+
     says-qname : Says (event 0x8C p a 0) (here 0x8C)
-    unfolding codesBy valueBy attributeBy namedSymbols codesOf
+    unfolding codesBy valueBy countedBy attributeBy namedSymbols codesOf openingIn
     says-qname =
         record {
           codes = λ q. codes-unless (classIn doc names rows) q (qname (uriAt doc names qnames rows a) (localAt doc names qnames rows a) ∷ [])
-              ∙ ap (λ (x : ℕ). cond (eqb q 2) [] (mark 2 x ∷ [])) (pair-both n);
+              ∙ ap (λ (x : ℕ). cond (eqb q 2) [] (x ∷ [])) (ap (mark 2) (pair-both n) ∙ sym (mark-qname M a from to _ refl));
           after = λ q. refl;
           opens-is = refl;
           closes-is = refl;
-          fits = record {
-            element = λ e. n .fits;
-            attribute = λ e. n .fits;
-            qname = λ e. n .fits;
-            chunk = λ e. clash 0x8C 0xF2 refl e;
-            value = λ e f. absurd (f refl);
-          };
-          named = λ e. n;
+          fits = referred 0x8C refl (λ e f. f refl);
         }
 
-  module _ (k p a s : ℕ) (low : (0 < k) × (k < 0xA0)) (no : eqb k 0x8C ≡ false) (h : a + s ≤ length doc) where
+  module _ (k p a s : ℕ) (low : (0 < k) × (k < 0xA0)) (no : eqb k 0x8C ≡ false) (h : a + s ≤ length doc) (law : lawful (shapeOf k) (part doc a s) ≡ true) where
     far : (x : ℕ) → 0xA0 ≤ x → eqb k x ≡ false
     far x l = ne-eqb k x (λ e. let q : ⊥ = omega (arith, low .1) in q)
 
     says-value : Says (event k p a s) (valued k (part doc a s))
-    unfolding codesBy valueBy attributeBy
+    unfolding codesBy valueBy countedBy attributeBy
     says-value =
         let f8 : eqb k 0xF8 ≡ false = far 0xF8 (omega arith) in
         let f6 : eqb k 0xF6 ≡ false = far 0xF6 (omega arith) in
@@ -324,9 +340,8 @@ module _ {doc names qnames events classes : List ℕ} {rows qrows count : ℕ} (
             attribute = λ e. clash k 0xF6 f6 e;
             qname = λ e. clash k 0x8C no e;
             chunk = λ e. clash k 0xF2 f2 e;
-            value = λ e f. h;
+            value = λ e f. (h, law, omega (arith, d .short));
           };
-          named = λ e. clash k 0xF6 f6 e;
         }
 
   says-row : (token p row : ℕ) (ev : Event) → ev ≡ qnamed token (uriAt doc names qnames rows row) (prefixAt doc names qnames rows row) (localAt doc names qnames rows row)
@@ -352,11 +367,10 @@ module _ {doc names qnames events classes : List ℕ} {rows qrows count : ℕ} (
       (facts.first (words 0xF3 p a u (other 0xF3 refl refl refl refl refl refl refl)) (facts.first (says-chunk p a u (i .1)) facts.none)))))))) t
   says (facts.pi {place = p} {row = row} {start = s} r l e) = quiet 0xF4 p row s _ (still _ (λ q. refl) (λ q. refl) refl refl) (other 0xF4 refl refl refl refl refl refl refl)
   says (facts.reference {token = k} {place = p} {row = row} t a b l h) =
-      let n = named-row d row a b in
       one-of qnameTokens (λ (x : ℕ). Says (event x p row 0) (eventOf doc (nameRowsIn rows names) (qnameRowsIn qrows qnames) (event x p row 0))) k
-      (facts.first (says-row 0xF8 p row _ (named-event doc names qnames rows qrows 0xF8 row a b) (says-element p row n))
-      (facts.first (says-row 0xF6 p row _ (named-event doc names qnames rows qrows 0xF6 row a b) (says-attribute p row n))
-      (facts.first (says-row 0x8C p row _ (named-event doc names qnames rows qrows 0x8C row a b) (says-qname p row n)) facts.none))) t
+      (facts.first (says-row 0xF8 p row _ (named-event doc names qnames rows qrows 0xF8 row a b) (says-element p row a b))
+      (facts.first (says-row 0xF6 p row _ (named-event doc names qnames rows qrows 0xF6 row a b) (says-attribute p row a b))
+      (facts.first (says-row 0x8C p row _ (named-event doc names qnames rows qrows 0x8C row a b) (says-qname p row a b)) facts.none))) t
   says (facts.nested {place = p} {version = v} a b) = quiet 0xEC p v 0 _ (still _ (λ q. refl) (λ q. refl) refl refl) (other 0xEC refl refl refl refl refl refl refl)
   says (facts.bare {token = k} {place = p} t) =
       one-of bareTokens (λ (x : ℕ). Says (event x p 0 0) (eventOf doc (nameRowsIn rows names) (qnameRowsIn qrows qnames) (event x p 0 0))) k
@@ -365,7 +379,7 @@ module _ {doc names qnames events classes : List ℕ} {rows qrows count : ℕ} (
   says (facts.value {token = k} {place = p} {a = a} {size = n} c e) =
       let i = payload-there doc (shapeOf k) p e in
       let b = not-qname k doc p e in
-      by-class c (says-value k p a n (value-code k c) b (i .1)) b
+      by-class c (says-value k p a n (value-code k c) b (i .1) (payload-lawful (shapeOf k) doc p e)) b
     where
       by-class : (classOf k ≡ class.Value) ⊎ (classOf k ≡ class.LaterValue) → Says (event k p a n) (valued k (part doc a n)) → eqb k 0x8C ≡ false
           → Says (event k p a n) (eventBy (classOf k) doc (nameRowsIn rows names) (qnameRowsIn qrows qnames) (event k p a n))

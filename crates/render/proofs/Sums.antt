@@ -2,11 +2,13 @@
 use Prim.Native.Nat.{ℕ, zero, suc, _+_, _-_, _≤_, _<_}
 use mathlib.Core.Path.{_≡_, refl, sym, ap, _∙_}
 use mathlib.Core.Bool.{Bool, true, false, cond}
-use mathlib.Core.List.{List, [], _∷_, _++_, append-assoc, append-nil}
+use mathlib.Core.List.{List, [], _∷_, _++_, map, append-assoc, append-nil}
 use native.Mathlib.Omega.{arith}
 use native.Mathlib.Nat.{add-zero}
-use lib.ListN.{length, getD, take, drop, length-append, List·getD-append}
+use lib.ListN.{length, getD, take, drop, length-append, length-map, List·getD-append}
 use lib.Seq.{sets, sets-eq, take-at, drop-at, length-sets}
+use Rattle.hash.specs.Hash.{hashFrom, hashOf}
+use Rattle.hash.proofs.Hashes.{hash-append}
 use Rattle.twins.specs.Parts.{Cut, partAt, values, partsOf}
 
 abbrev pub flat : List (List ℕ) → List ℕ
@@ -45,7 +47,25 @@ later-at : (ps : List (List ℕ)) (k : ℕ) → getD (later ps) k [] ≡ getD ps
 later-at [] k = refl
 later-at (p ∷ ps) k = refl
 
+hash-at : (ps : List (List ℕ)) (k : ℕ) → k < length ps → getD (map hashOf ps) k 0 ≡ hashOf (getD ps k [])
+hash-at [] k h = absurd (let q : ⊥ = omega arith in q)
+hash-at (p ∷ ps) zero h = refl
+hash-at (p ∷ ps) (suc k) h = hash-at ps k (omega arith)
+
+hash-snoc : (ps : List (List ℕ)) (p : List ℕ) → map hashOf (ps ++ (p ∷ [])) ≡ map hashOf ps ++ (hashOf p ∷ [])
+hash-snoc [] p = refl
+hash-snoc (x ∷ ps) p = ap (λ (l : List ℕ). hashOf x ∷ l) (hash-snoc ps p)
+
 -- ---- at a row that begins a record, and at one that does not
+
+pub hashes-new : (s : Bool) (done : List (List ℕ)) (cur : List ℕ) (h : ℕ) → h ≡ hashOf cur
+    → map hashOf done ++ cond s (h ∷ []) [] ≡ map hashOf (cond s (done ++ (cur ∷ [])) done)
+hashes-new true done cur h e = sym (hash-snoc done cur ∙ rw (← e))
+hashes-new false done cur h e = append-nil (map hashOf done)
+
+pub hash-new : (s : Bool) (cur x : List ℕ) (h : ℕ) → h ≡ hashOf cur → hashFrom (cond s 88172645463325252 h) x ≡ hashOf (cond s x (cur ++ x))
+hash-new true cur x h e = refl
+hash-new false cur x h e = ap (λ (y : ℕ). hashFrom y x) e ∙ sym (hash-append 88172645463325252 cur x)
 
 pub flat-new : (s : Bool) (done : List (List ℕ)) (cur x : List ℕ) → (flat done ++ cur) ++ x ≡ flat (cond s (done ++ (cur ∷ [])) done) ++ cond s x (cur ++ x)
 flat-new true done cur x = ap (λ (l : List ℕ). l ++ x) (sym (flat-snoc done cur))
@@ -131,16 +151,27 @@ module _ (ps : List (List ℕ)) (syms₀ starts₀ : List ℕ) (hs : length (fla
           let s : getD (sums 0 ps) n 0 ≤ 0 + length (flat ps) = sums-le 0 ps n (omega arith) in
           rw (start-at n (omega arith), length-sets syms₀ 0 (flat ps)) (omega arith)
 
+  is-part : (i : ℕ) → i < n → partAt (sets syms₀ 0 (flat ps)) (sets starts₀ 0 (sums 0 ps)) i ≡ getD (later ps) i []
+  is-part i h =
+      let e : i + 1 ≡ suc i = omega arith in
+      rw (e, start-at i (omega arith), start-at (suc i) (omega arith), laid syms₀ (flat ps) hs, later-at ps i)
+      (part-at 0 [] ps (drop (length (flat ps)) syms₀) i refl (omega arith))
+
   pub parts-here : partsOf (sets syms₀ 0 (flat ps)) (sets starts₀ 0 (sums 0 ps)) n ≡ later ps
   unfolding partsOf
-  parts-here = values-are _ n 0 (later ps) (later-long ps ∙ size) (λ i h. is-part i h)
+  parts-here = values-are _ n 0 (later ps) (later-long ps ∙ size) (λ i h. ap (partAt (sets syms₀ 0 (flat ps)) (sets starts₀ 0 (sums 0 ps))) (from-zero i) ∙ is-part i h)
     where
       size : length ps - 1 ≡ n
       size = omega arith
 
-      is-part : (i : ℕ) → i < n → partAt (sets syms₀ 0 (flat ps)) (sets starts₀ 0 (sums 0 ps)) (0 + i) ≡ getD (later ps) i []
-      is-part i h =
-          let z : 0 + i ≡ i = omega arith in
-          let e : i + 1 ≡ suc i = omega arith in
-          rw (z, e, start-at i (omega arith), start-at (suc i) (omega arith), laid syms₀ (flat ps) hs, later-at ps i)
-          (part-at 0 [] ps (drop (length (flat ps)) syms₀) i refl (omega arith))
+      from-zero : (i : ℕ) → 0 + i ≡ i
+      from-zero i = omega arith
+
+  -- the hash of part k stands at place k + 1
+  pub hashes-here : (hashes₀ : List ℕ) → length ps ≤ length hashes₀ → (k : ℕ) → k < n
+      → getD (sets hashes₀ 0 (map hashOf ps)) (k + 1) 0 ≡ hashOf (partAt (sets syms₀ 0 (flat ps)) (sets starts₀ 0 (sums 0 ps)) k)
+  hashes-here hashes₀ h k l =
+      let a : length (map hashOf ps) ≤ length hashes₀ = omega (arith, length-map ps hashOf) in
+      let b : suc k < length (map hashOf ps) = omega (arith, length-map ps hashOf) in
+      let e : k + 1 ≡ suc k = omega arith in
+      rw (e, laid hashes₀ (map hashOf ps) a) (List·getD-append (map hashOf ps) _ 0 (suc k) b ∙ hash-at ps (suc k) (omega arith)) ∙ ap hashOf (sym (is-part k l ∙ later-at ps k))

@@ -24,8 +24,8 @@ use Rattle.value.proofs.Fields.{field-inside, text-lies}
 use Rattle.reader.specs.Rows.{EventRow}
 use Rattle.reader.specs.Facts as facts
 use Rattle.reader.specs.Facts.{oneOf, textTokens, qnameTokens, bareTokens, EventFits, Placed}
-use Rattle.render.specs.Codes.{sizeBy}
-use Rattle.render.proofs.Rows.{size-value}
+use Rattle.render.specs.Codes.{roomBy}
+use Rattle.render.proofs.Rows.{room-value}
 
 -- ---- the codes of values
 
@@ -106,7 +106,7 @@ ruled-lawful shape doc at (field.Payload p n) {place} {size} e = go (lawful shap
 ruled-lawful shape doc at (field.Reference number next) e = absurd (let z : _≡_ {A = ℕ} 0 1 = cc in let q : ⊥ = omega arith in q)
 ruled-lawful shape doc at (field.Refused number p) e = absurd (let z : _≡_ {A = ℕ} 0 1 = cc in let q : ⊥ = omega arith in q)
 
-payload-lawful : (shape : Shape) (doc : List ℕ) (at : ℕ) {place size : ℕ} → fieldAt shape doc at ≡ field.Payload place size → lawful shape (part doc place size) ≡ true
+pub payload-lawful : (shape : Shape) (doc : List ℕ) (at : ℕ) {place size : ℕ} → fieldAt shape doc at ≡ field.Payload place size → lawful shape (part doc place size) ≡ true
 unfolding fieldAt
 payload-lawful shape doc at e = ruled-lawful shape doc at (extentAt shape doc at) e
 
@@ -136,25 +136,25 @@ module _ (doc : List ℕ) where
   payload-there shape at e = subst (λ (f : Field). Inside (length doc) at f) e (field-inside shape doc at)
 
   module _ (m n : ℕ) where
-    -- a row's text or payload lies before the place after the row
-    pub fits-size : {e : EventRow} {next : ℕ} → EventFits doc m n e next → e .place + sizeBy (e .token) (e .b) ≤ next
-    fits-size (facts.standalone {place = p} v) = omega arith
-    fits-size (facts.texted {token = k} {place = p} {a = a} {units = u} t e) =
+    -- a row adds at most five numbers for each of its bytes, and two more
+    pub fits-room : {e : EventRow} {next : ℕ} → EventFits doc m n e next → roomBy (e .token) (e .b) + 5 * e .place ≤ 5 * next + 2
+    fits-room (facts.standalone {place = p} v) = omega arith
+    fits-room (facts.texted {token = k} {place = p} {a = a} {units = u} t e) =
         let i = text-there (p + 1) e in
-        one-of textTokens (λ (x : ℕ). p + sizeBy x u ≤ a + 2 * u) k
+        one-of textTokens (λ (x : ℕ). roomBy x u + 5 * p ≤ 5 * (a + 2 * u) + 2) k
         (facts.first (omega arith) (facts.first (omega arith) (facts.first (omega arith) (facts.first (omega arith)
         (facts.first (omega arith) (facts.first (omega arith) (facts.first (omega arith) (facts.first (omega arith) facts.none)))))))) t
-    fits-size (facts.pi {place = p} {start = s} r l e) = let i = text-there s e in omega arith
-    fits-size (facts.reference {token = k} {place = p} {next = next} t a b l h) =
-        one-of qnameTokens (λ (x : ℕ). p + sizeBy x 0 ≤ next) k (facts.first (omega arith) (facts.first (omega arith) (facts.first (omega arith) facts.none))) t
-    fits-size (facts.nested a b) = omega arith
-    fits-size (facts.bare {token = k} {place = p} t) =
-        one-of bareTokens (λ (x : ℕ). p + sizeBy x 0 ≤ p + 1) k
+    fits-room (facts.pi {place = p} {start = s} r l e) = let i = text-there s e in omega arith
+    fits-room (facts.reference {token = k} {place = p} {next = next} t a b l h) =
+        one-of qnameTokens (λ (x : ℕ). roomBy x 0 + 5 * p ≤ 5 * next + 2) k (facts.first (omega arith) (facts.first (omega arith) (facts.first (omega arith) facts.none))) t
+    fits-room (facts.nested a b) = omega arith
+    fits-room (facts.bare {token = k} {place = p} t) =
+        one-of bareTokens (λ (x : ℕ). roomBy x 0 + 5 * p ≤ 5 * (p + 1) + 2) k
         (facts.first (omega arith) (facts.first (omega arith) (facts.first (omega arith) (facts.first (omega arith) facts.none)))) t
-    fits-size (facts.value {token = k} {place = p} {a = a} {size = s} c e) =
+    fits-room (facts.value {token = k} {place = p} {a = a} {size = s} c e) =
         let i = payload-there (shapeOf k) p e in
         let l = value-code k c in
-        let z : sizeBy k s ≡ s = size-value k s (λ e. let q : ⊥ = omega arith in q) (l .1) in
+        let z : roomBy k s ≡ 6 + 5 * s = room-value k s (λ e. let q : ⊥ = omega arith in q) (l .1) in
         omega arith
 
     -- rows from place p on, one after the other, all before `at`
@@ -173,4 +173,4 @@ module _ (doc : List ℕ) where
 
     pub ahead-le : (p : ℕ) (es : List EventRow) (at : ℕ) → Ahead p es at → p ≤ at
     ahead-le p [] at h = h
-    ahead-le p (e ∷ es) at h = let i = ahead-le (h .0) es at (h .3) in let j = fits-size (h .2) in omega (arith, h .1)
+    ahead-le p (e ∷ es) at h = let i = ahead-le (h .0) es at (h .3) in let j = fits-room (h .2) in omega (arith, h .1)

@@ -1,15 +1,17 @@
 -- What a row of events adds to the numbers of its record, by its token. An open attribute is a number: 1 where it counts, 2
 -- where it does not, 0 where none is open.
-use Prim.Native.Nat.{ℕ, _+_, _-_, _*_, _≤_}
+use Prim.Native.Nat.{ℕ, _+_, _-_, _*_, _%_, _≤_}
 use mathlib.Core.Path.{_≡_}
 use mathlib.Core.Bool.{Bool, true, false, cond}
 use mathlib.Core.Option.{Option, none, some}
 use mathlib.Core.List.{List, [], _∷_, _++_, map}
-use lib.Dec.{eqb, ltb}
+use lib.Dec.{eqb, ltb, leb}
 use lib.ListN.{length, getD}
 use Rattle.lists.specs.Lists.{part, unitsOf}
 use Rattle.reader.specs.Events.{nameText}
 use Rattle.reader.specs.Facts.{Every, NameFits}
+use Rattle.token.specs.Tokens.{shapeOf}
+use Rattle.value.specs.Rules.{lawful}
 use Rattle.text.specs.Text.{textOf}
 use Rattle.text.specs.declared.Plan.{Plan}
 use Rattle.text.specs.declared.Plan.the-variants.{Nothing, Payload, Number, Boolean, HexDigits, Base64Letters}
@@ -72,18 +74,28 @@ abbrev pub valueCodes : ℕ → List ℕ → Option (List ℕ) → List ℕ
 valueCodes token payload none = mark 5 token ∷ map (mark 6) payload
 valueCodes token payload (some units) = units
 
--- no text, the payload itself, or a text that is made
+-- no text, the payload itself, a text that is made in a small buffer, or one that is made of a blob
 abbrev pub wayOf : Plan → ℕ
 wayOf Nothing = 0
 wayOf Payload = 1
 wayOf (Number minus size scale) = 2
 wayOf (Boolean b) = 2
-wayOf HexDigits = 2
-wayOf Base64Letters = 2
+wayOf HexDigits = 3
+wayOf Base64Letters = 3
 
 -- the codes of values are those from 01 to 9F (004, section 2), so no class is looked up
 abbrev pub isValue : ℕ → Bool
 isValue token = cond (eqb token 0) false (ltb token 0xA0)
+
+-- ---- marks of rows of qnames, in a table from row 1 on
+
+-- the opening mark
+unfoldable pub openingIn : List ℕ → ℕ → ℕ
+openingIn marks row = getD marks (row - 1) 0 % 2147483648
+
+-- an attribute with this qname declares a prefix
+unfoldable pub declaredIn : List ℕ → ℕ → Bool
+declaredIn marks row = leb 2147483648 (getD marks (row - 1) 0)
 
 -- ---- rows
 
@@ -91,25 +103,32 @@ isValue token = cond (eqb token 0) false (ltb token 0xA0)
 abbrev pub closeBy : ℕ → List ℕ
 closeBy q = cond (eqb q 1) (mark 4 0 ∷ []) []
 
--- XSD-QNAME, or another value; none of a skipped attribute
-unfoldable pub valueBy : List ℕ → List ℕ → List ℕ → ℕ → ℕ → ℕ → ℕ → List ℕ
-valueBy doc qnames classes q token a b =
-    cond (eqb token 0x8C) (cond (eqb q 2) [] (mark 2 (pairOf qnames classes a) ∷ []))
-    (cond (isValue token) (cond (eqb q 2) [] (valueCodes token (part doc a b) (textOf token (part doc a b)))) [])
+-- XSD-QNAME, or another value
+unfoldable pub countedBy : List ℕ → List ℕ → ℕ → ℕ → ℕ → List ℕ
+countedBy doc marks token a b =
+    cond (eqb token 0x8C) ((openingIn marks a + 2) ∷ [])
+    (cond (isValue token) (valueCodes token (part doc a b) (textOf token (part doc a b))) [])
 
--- `after` is the open attribute after the row
-unfoldable pub codesBy : List ℕ → List ℕ → List ℕ → ℕ → ℕ → ℕ → ℕ → ℕ → List ℕ
-codesBy doc qnames classes q after token a b =
-    cond (eqb token 0xF8) (mark 0 (pairOf qnames classes a) ∷ [])
-    (cond (eqb token 0xF6) (closeBy q ++ cond (eqb after 1) (mark 1 (pairOf qnames classes a) ∷ []) [])
+-- none of a skipped attribute
+unfoldable pub valueBy : List ℕ → List ℕ → ℕ → ℕ → ℕ → ℕ → List ℕ
+valueBy doc marks q token a b = cond (eqb q 2) [] (countedBy doc marks token a b)
+
+unfoldable pub codesBy : List ℕ → List ℕ → ℕ → ℕ → ℕ → ℕ → List ℕ
+codesBy doc marks q token a b =
+    cond (eqb token 0xF8) (openingIn marks a ∷ [])
+    (cond (eqb token 0xF6) (closeBy q ++ cond (declaredIn marks a) [] ((openingIn marks a + 1) ∷ []))
     (cond (eqb token 0xF5) (closeBy q)
     (cond (eqb token 0xF7) (mark 3 0 ∷ [])
-    (cond (eqb token 0xF2) (unitsOf (part doc a (2 * b))) (valueBy doc qnames classes q token a b)))))
+    (cond (eqb token 0xF2) (unitsOf (part doc a (2 * b))) (valueBy doc marks q token a b)))))
+
+-- nothing outside of a record
+abbrev pub unlessOut : ℕ → List ℕ → List ℕ
+unlessOut depth l = cond (eqb depth 0) [] l
 
 -- outside of a record only ELEMENT counts
-unfoldable pub rowBy : List ℕ → List ℕ → List ℕ → ℕ → ℕ → ℕ → ℕ → ℕ → ℕ → List ℕ
-rowBy doc qnames classes depth q after token a b =
-    cond (cond (eqb depth 0) (eqb token 0xF8) true) (codesBy doc qnames classes q after token a b) []
+unfoldable pub rowBy : List ℕ → List ℕ → ℕ → ℕ → ℕ → ℕ → ℕ → List ℕ
+rowBy doc marks depth q token a b =
+    cond (eqb token 0xF8) (openingIn marks a ∷ []) (unlessOut depth (codesBy doc marks q token a b))
 
 -- a record begins; elements open after the row; the attribute open after it
 abbrev pub beginsBy : ℕ → ℕ → Bool
@@ -118,18 +137,17 @@ beginsBy depth token = cond (eqb token 0xF8) (eqb depth 0) false
 abbrev pub depthBy : ℕ → ℕ → ℕ
 depthBy depth token = cond (eqb token 0xF8) (depth + 1) (cond (eqb token 0xF7) (depth - 1) depth)
 
-unfoldable pub attributeBy : List ℕ → List ℕ → List ℕ → ℕ → ℕ → ℕ → ℕ → ℕ
-attributeBy doc names qnames rows q token a =
-    cond (eqb token 0xF6) (cond (declaresAt doc names qnames rows a) 2 1) (cond (eqb token 0xF5) 0 q)
+unfoldable pub attributeBy : List ℕ → ℕ → ℕ → ℕ → ℕ
+attributeBy marks q token a = cond (eqb token 0xF6) (cond (declaredIn marks a) 2 1) (cond (eqb token 0xF5) 0 q)
 
--- the bytes of a row's text or payload
-abbrev pub sizeBy : ℕ → ℕ → ℕ
-sizeBy token b = cond (eqb token 0xF2) (2 * b) (cond (isValue token) b 0)
+-- the most numbers that a row adds: two marks, or the units of a text
+abbrev pub roomBy : ℕ → ℕ → ℕ
+roomBy token b = 2 + cond (eqb token 0xF2) b (cond (isValue token) (4 + 5 * b) 0)
 
--- what a row asks of a document of n bytes
-pub record RowFits (n : ℕ) (qnames classes : List ℕ) (token a b : ℕ) : Type 0 where
-  pub element : token ≡ 0xF8 → PairFits qnames classes a
-  pub attribute : token ≡ 0xF6 → PairFits qnames classes a
-  pub qname : token ≡ 0x8C → PairFits qnames classes a
-  pub chunk : token ≡ 0xF2 → a + 2 * b ≤ n
-  pub value : isValue token ≡ true → (token ≡ 0x8C → ⊥) → a + b ≤ n
+-- what a row asks of the document and the table of marks
+pub record RowFits (doc : List ℕ) (token a b : ℕ) : Type 0 where
+  pub element : token ≡ 0xF8 → (1 ≤ a) × (a ≤ 1024)
+  pub attribute : token ≡ 0xF6 → (1 ≤ a) × (a ≤ 1024)
+  pub qname : token ≡ 0x8C → (1 ≤ a) × (a ≤ 1024)
+  pub chunk : token ≡ 0xF2 → a + 2 * b ≤ length doc
+  pub value : isValue token ≡ true → (token ≡ 0x8C → ⊥) → (a + b ≤ length doc) × (lawful (shapeOf token) (part doc a b) ≡ true) × (b ≤ 65536)

@@ -1,3 +1,5 @@
 pub mod Render
 pub mod Store
 pub mod Codes
+pub mod Effects
+pub mod Marks

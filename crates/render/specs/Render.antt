@@ -1,8 +1,8 @@
 -- The meanings of all records as numbers, one after the other in one array, with a boundary for each record.
-use Prim.Native.Nat.{ℕ, _+_, _*_, _≤_}
+use Prim.Native.Nat.{ℕ, _+_, _*_, _≤_, _<_}
 use mathlib.Core.Path.{_≡_}
 use mathlib.Core.List.{List, map}
-use lib.ListN.{length}
+use lib.ListN.{length, getD}
 use Rattle.lists.specs.Lists.{Front}
 use Rattle.reader.specs.Events.{Event, eventOf}
 use Rattle.reader.specs.Facts.{Every, NameFits, QnameFits, Placed}
@@ -11,7 +11,8 @@ use Rattle.classes.specs.Tables.{nameRowsIn, qnameRowsIn, eventRowsIn}
 use Rattle.classes.specs.Classes.{textsOf, nameClasses}
 use Rattle.meaning.specs.Meaning.{meanings}
 use Rattle.meaning.specs.Codes.{codesOf}
-use Rattle.twins.specs.Parts.{partsOf, Cut}
+use Rattle.twins.specs.Parts.{partAt, partsOf, Cut}
+use Rattle.hash.specs.Hash.{hashOf}
 
 -- the events of so many rows, names by text
 unfoldable pub eventsIn : List ℕ → List ℕ → List ℕ → List ℕ → ℕ → ℕ → ℕ → List Event
@@ -22,7 +23,7 @@ abbrev pub classIn : List ℕ → List ℕ → ℕ → List ℕ → ℕ
 classIn doc names rows t = numberOf (textsOf doc (nameRowsIn rows names)) t
 
 -- rows that reading has made of the document, and the classes of the names
-pub record Drawable (doc names qnames events classes : List ℕ) (rows qrows count : ℕ) : Type 0 where
+pub record Renderable (doc names qnames events classes : List ℕ) (rows qrows count : ℕ) : Type 0 where
   pub short : length doc ≤ 65536
   pub few : rows ≤ 1024
   pub long : 2 * rows ≤ length names
@@ -38,11 +39,17 @@ pub record Drawable (doc names qnames events classes : List ℕ) (rows qrows cou
   pub classes-long : length classes ≡ 1024
   pub classes-are : Front (nameClasses doc (nameRowsIn rows names)) classes
 
--- so many records; the parts of the array are the codes of their meanings
-pub record Rendered (doc names qnames events : List ℕ) (rows qrows count : ℕ) (syms starts : List ℕ) (n : ℕ) : Type 0 where
+-- room for the numbers of any document of so many bytes and rows of events: five for each byte and two for each row. A decimal
+-- of 9 bytes can have 41 units; no other row has more for its bytes.
+abbrev pub roomFor : ℕ → ℕ → ℕ
+roomFor bytes count = 5 * bytes + 2 * count
+
+-- so many records; the parts of the array are the codes of their meanings, with their hashes
+pub record Rendered (doc names qnames events : List ℕ) (rows qrows count : ℕ) (syms starts hashes : List ℕ) (n : ℕ) : Type 0 where
   pub number-is : n ≡ length (meanings (eventsIn doc names qnames events rows qrows count))
   pub few : n ≤ 2048
-  pub long : length syms ≡ 307200
   pub starts-long : length starts ≡ 2049
+  pub hashes-long : length hashes ≡ 2049
   pub cut : Cut syms starts n
   pub parts-are : partsOf syms starts n ≡ map (codesOf (classIn doc names rows)) (meanings (eventsIn doc names qnames events rows qrows count))
+  pub hashes-are : (k : ℕ) → k < n → getD hashes (k + 1) 0 ≡ hashOf (partAt syms starts k)

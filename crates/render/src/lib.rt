@@ -1,342 +1,293 @@
-// The meanings of all records as numbers, one after the other in one array, with the place where each begins. One walk over
-// the rows of events.
+// The meanings of all records as numbers, one after the other in one array, with the place where each begins and its hash. One
+// walk over the rows of events.
 ghost use mathlib.Core.Path.{_≡_};
-ghost use mathlib.Core.Bool.{cond, true, _||_};
+ghost use mathlib.Core.Bool.{cond};
 ghost use mathlib.Core.List.{[], _∷_, _++_};
 ghost use Prim.Native.Nat.{_+_, _-_, _*_, _≤_, _<_};
-ghost use lib.Dec.{eqb};
-ghost use lib.ListN.{length, getD, take};
-ghost use Rattle.token.specs.Entries.{Listed};
+ghost use lib.Dec.{leb};
+ghost use lib.ListN.{length, getD};
+ghost use Rattle.lists.specs.Lists.{part, unitsOf};
 ghost use Rattle.blobtext.specs.Blobtext.{Alphabet};
-ghost use Rattle.classes.specs.Search.{classAt, Keyable};
-ghost use Rattle.meaning.specs.Meaning.{same, xmlns};
 ghost use Rattle.meaning.specs.Codes.{mark};
-ghost use Rattle.render.specs.Store.{Put};
-ghost use Rattle.render.specs.Codes.{pairOf, PairFits, Named, declaresAt, xmlnsColon, closeBy, valueBy, codesBy, rowBy, beginsBy, depthBy, attributeBy, sizeBy, RowFits};
-ghost use Rattle.render.specs.Render.{Drawable, Rendered};
+ghost use Rattle.render.specs.Store.{PutHashed};
+ghost use Rattle.render.specs.Codes.{openingIn, declaredIn, closeBy, countedBy, valueBy, unlessOut, rowBy, depthBy, attributeBy, roomBy, RowFits};
+ghost use Rattle.render.specs.Effects.{cursorOf, movedTo, attributed, Begun, RowPut, RowDone};
+ghost use Rattle.render.specs.Render.{Renderable, Rendered, roomFor};
+use values::Cursor;
 
+mod marks;
 mod values;
-
-// ---- names
-
-// The class of the row of names that number `k` of a table of qnames refers to, 0 for row 0, the empty name.
-fn class_of(qnames: &[u32], classes: &[u32; 1024], k: usize) -> u32
-    requires { ⌜ (k < length (now qnames)) × Keyable (now classes) (getD (now qnames) k 0) ⌝ }
-    ensures { λ r. ⌜ (r ≡ classAt (now (classes .entry)) (getD (now (qnames .entry)) k 0)) × (r ≤ 1024) ⌝ }
-{
-    let row = classes::cell(qnames, k);
-    if row == 0 {
-        return 0;
-    }
-    classes[row - 1]
-}
-
-// The classes of URI and local of a row of qnames as one number.
-fn pair_at(qnames: &[u32], classes: &[u32; 1024], row: usize) -> u32
-    requires { ⌜ PairFits (now qnames) (now classes) row ⌝ }
-    ensures { λ r. ⌜ (r ≡ pairOf (now (qnames .entry)) (now (classes .entry)) row) × (r ≤ 1050624) ⌝ }
-{
-    let first = 3 * (row - 1);
-    let uri = class_of(qnames, classes, first);
-    let local = class_of(qnames, classes, first + 2);
-    1025 * uri + local
-}
-
-// The mark of a name.
-fn put_named(
-    qnames: &[u32],
-    classes: &[u32; 1024],
-    row: usize,
-    kind: u32,
-    syms: &mut [u32; 307200],
-    at: usize,
-) -> usize
-    requires { ⌜ PairFits (now qnames) (now classes) row × (kind < 8) × (length (now syms) ≡ 307200) × (at < 307200) ⌝ }
-    ensures { λ r. ⌜ Put (now (syms .entry)) at (mark kind (pairOf (now (qnames .entry)) (now (classes .entry)) row) ∷ []) (now (syms .exit)) r ⌝ }
-{
-    let pair = pair_at(qnames, classes, row);
-    values::put_one(syms, at, 65536 + 8 * pair + kind)
-}
-
-fn same_bytes(a: &[u8], b: &[u8]) -> bool
-    requires { ⌜ length (now a) ≡ length (now b) ⌝ }
-    ensures { λ r. ⌜ r ≡ same (now (a .entry)) (now (b .entry)) ⌝ }
-{
-    let mut i = 0;
-    while i < a.len() {
-        if a[i] != b[i] {
-            return false;
-        }
-        i += 1;
-    }
-    true
-}
-
-// The text is "xmlns" or starts "xmlns:".
-fn is_xmlns(text: &[u8]) -> bool
-    ensures { λ r. ⌜ r ≡ (same (now (text .entry)) xmlns || same (take 12 (now (text .entry))) xmlnsColon) ⌝ }
-{
-    let word = [0x78u8, 0, 0x6D, 0, 0x6C, 0, 0x6E, 0, 0x73, 0, 0x3A, 0];
-    if text.len() == 10 {
-        return same_bytes(text, &word[..10]);
-    }
-    if text.len() < 12 {
-        return false;
-    }
-    same_bytes(&text[..12], &word)
-}
-
-// The attribute of a row of qnames declares a prefix. Classes are compared first, bytes seldom.
-fn declares_at(
-    doc: &[u8],
-    names: &[u32],
-    qnames: &[u32],
-    classes: &[u32; 1024],
-    rows: usize,
-    row: usize,
-) -> bool
-    requires { ⌜ Named (now doc) (now names) (now qnames) (now classes) rows row ⌝ }
-    ensures { λ r. ⌜ r ≡ declaresAt (now (doc .entry)) (now (names .entry)) (now (qnames .entry)) rows row ⌝ }
-{
-    let first = 3 * (row - 1);
-    if class_of(qnames, classes, first) != 0 {
-        return false;
-    }
-    if class_of(qnames, classes, first + 2) != 0 {
-        return false;
-    }
-    let prefix = classes::cell(qnames, first + 1);
-    if prefix == 0 {
-        return false;
-    }
-    let place = classes::cell(names, 2 * (prefix - 1));
-    let units = classes::cell(names, 2 * (prefix - 1) + 1);
-    let end = place + 2 * units;
-    is_xmlns(&doc[place..end])
-}
 
 // ---- rows
 
-// The open attribute after a row: 0 for none, 1 where it counts, 2 where it does not.
-fn attribute_after(
-    doc: &[u8],
-    names: &[u32],
-    qnames: &[u32],
-    classes: &[u32; 1024],
-    rows: usize,
-    q: u8,
-    token: usize,
-    a: usize,
-) -> u8
-    requires { ⌜ (token ≡ 0xF6 → Named (now doc) (now names) (now qnames) (now classes) rows a) ⌝ }
-    ensures { λ r. ⌜ r ≡ attributeBy (now (doc .entry)) (now (names .entry)) (now (qnames .entry)) rows q token a ⌝ }
+// What the walk knows: the place of the next number and the hash of the record's numbers so far; how many records have
+// begun; how many elements are open; and the open attribute: 0 for none, 1 where it counts, 2 where it does not.
+pub struct Progress {
+    pub at: usize,
+    pub hash: u64,
+    pub records: usize,
+    pub depth: usize,
+    pub attribute: usize,
+}
+
+fn cursor_of(p: Progress) -> Cursor
+    ensures { λ r. ⌜ r ≡ cursorOf p ⌝ }
 {
-    if token == 0xF6 {
-        if declares_at(doc, names, qnames, classes, rows, a) {
-            return 2;
-        }
-        return 1;
+    Cursor {
+        at: p.at,
+        hash: p.hash,
     }
-    if token == 0xF5 {
-        return 0;
+}
+
+// After numbers were written.
+fn moved(p: Progress, i: Cursor) -> Progress
+    ensures { λ r. ⌜ r ≡ movedTo p i ⌝ }
+{
+    Progress {
+        at: i.at,
+        hash: i.hash,
+        records: p.records,
+        depth: p.depth,
+        attribute: p.attribute,
     }
-    q
+}
+
+fn with_attribute(p: Progress, attribute: usize) -> Progress
+    ensures { λ r. ⌜ r ≡ attributed p attribute ⌝ }
+{
+    Progress {
+        at: p.at,
+        hash: p.hash,
+        records: p.records,
+        depth: p.depth,
+        attribute,
+    }
+}
+
+// Where no element is open a record begins: the place of its first number, and the hash of the record before it.
+fn begin(starts: &mut [usize; 2049], hashes: &mut [u64; 2049], p: Progress) -> Progress
+    requires { ⌜ (p .records < 2049) × (length (now starts) ≡ 2049) × (length (now hashes) ≡ 2049) ⌝ }
+    ensures { λ r. ⌜ Begun (now (starts .entry)) (now (hashes .entry)) p (now (starts .exit)) (now (hashes .exit)) r ⌝ }
+{
+    if p.depth != 0 {
+        return p;
+    }
+    let n = p.records;
+    starts[n] = p.at;
+    hashes[n] = p.hash;
+    Progress {
+        at: p.at,
+        hash: hash::SEED,
+        records: n + 1,
+        depth: p.depth,
+        attribute: p.attribute,
+    }
+}
+
+// ELEMENT.
+fn open(marks: &[u32; 1024], syms: &mut [u32], p: Progress, row: usize) -> Progress
+    requires { ⌜ (1 ≤ row) × (row ≤ 1024) × (p .at < length (now syms)) × (p .depth ≤ 4096) ⌝ }
+    ensures { λ r. ⌜ RowPut (openingIn (now (marks .entry)) row ∷ []) (p .attribute) (p .depth + 1) (now (syms .entry)) p (now (syms .exit)) r ⌝ }
+{
+    let mark = marks[row - 1] % 2147483648;
+    let i = values::put_one(syms, cursor_of(p), mark);
+    Progress {
+        at: i.at,
+        hash: i.hash,
+        records: p.records,
+        depth: p.depth + 1,
+        attribute: p.attribute,
+    }
+}
+
+// ENDELEMENT.
+fn close(syms: &mut [u32], p: Progress) -> Progress
+    requires { ⌜ p .at < length (now syms) ⌝ }
+    ensures { λ r. ⌜ RowPut (unlessOut (p .depth) (mark 3 0 ∷ [])) (p .attribute) (p .depth - 1) (now (syms .entry)) p (now (syms .exit)) r ⌝ }
+{
+    if p.depth == 0 {
+        return p;
+    }
+    let i = values::put_one(syms, cursor_of(p), 65539);
+    Progress {
+        at: i.at,
+        hash: i.hash,
+        records: p.records,
+        depth: p.depth - 1,
+        attribute: p.attribute,
+    }
 }
 
 // An open attribute that counts is closed.
-fn put_close(syms: &mut [u32; 307200], at: usize, q: u8) -> usize
-    requires { ⌜ (length (now syms) ≡ 307200) × (at < 307200) ⌝ }
-    ensures { λ r. ⌜ Put (now (syms .entry)) at (closeBy q) (now (syms .exit)) r ⌝ }
+fn put_close(syms: &mut [u32], i: Cursor, attribute: usize) -> Cursor
+    requires { ⌜ i .at < length (now syms) ⌝ }
+    ensures { λ r. ⌜ PutHashed (now (syms .entry)) i (closeBy attribute) (now (syms .exit)) r ⌝ }
 {
-    if q == 1 {
-        return values::put_one(syms, at, 65540);
+    if attribute == 1 {
+        return values::put_one(syms, i, 65540);
     }
-    at
+    i
 }
 
-// An attribute closes the one before; one that declares a prefix has no mark.
-fn put_attribute(
-    qnames: &[u32],
-    classes: &[u32; 1024],
-    row: usize,
-    syms: &mut [u32; 307200],
-    at: usize,
-    q: u8,
-    after: u8,
-) -> usize
-    requires { ⌜ PairFits (now qnames) (now classes) row × (length (now syms) ≡ 307200) × (at + 1 < 307200) ⌝ }
-    ensures { λ r. ⌜ Put (now (syms .entry)) at
-        (closeBy q ++ cond (eqb after 1) (mark 1 (pairOf (now (qnames .entry)) (now (classes .entry)) row) ∷ []) []) (now (syms .exit)) r ⌝ }
+// 2 where the mark is that of a qname that declares a prefix, else 1.
+fn counts(mark: u32) -> usize
+    ensures { λ r. ⌜ r ≡ cond (leb 2147483648 mark) 2 1 ⌝ }
 {
-    let to = put_close(syms, at, q);
-    if after == 1 {
-        return put_named(qnames, classes, row, 1, syms, to);
-    }
-    to
+    if 2147483648 <= mark { 2 } else { 1 }
 }
 
-// XSD-QNAME or another value; of a skipped attribute nothing.
+// ATTRIBUTE: it closes the one before; one that declares a prefix has no mark.
+fn put_attribute(marks: &[u32; 1024], syms: &mut [u32], p: Progress, row: usize) -> Progress
+    requires { ⌜ (1 ≤ row) × (row ≤ 1024) × (p .at + 1 < length (now syms)) ⌝ }
+    ensures { λ r. ⌜ RowPut (unlessOut (p .depth) (closeBy (p .attribute) ++ cond (declaredIn (now (marks .entry)) row) [] ((openingIn (now (marks .entry)) row + 1) ∷ [])))
+        (cond (declaredIn (now (marks .entry)) row) 2 1) (p .depth) (now (syms .entry)) p (now (syms .exit)) r ⌝ }
+{
+    let mark = marks[row - 1];
+    if p.depth == 0 {
+        return with_attribute(p, counts(mark));
+    }
+    let i = put_close(syms, cursor_of(p), p.attribute);
+    if 2147483648 <= mark {
+        return with_attribute(moved(p, i), 2);
+    }
+    with_attribute(moved(p, values::put_one(syms, i, mark + 1)), 1)
+}
+
+// ENDATTRIBUTES.
+fn end_attributes(syms: &mut [u32], p: Progress) -> Progress
+    requires { ⌜ p .at < length (now syms) ⌝ }
+    ensures { λ r. ⌜ RowPut (unlessOut (p .depth) (closeBy (p .attribute))) 0 (p .depth) (now (syms .entry)) p (now (syms .exit)) r ⌝ }
+{
+    if p.depth == 0 {
+        return with_attribute(p, 0);
+    }
+    with_attribute(moved(p, put_close(syms, cursor_of(p), p.attribute)), 0)
+}
+
+// A CDATA chunk of `units` units.
+fn put_chunk(doc: &[u8], syms: &mut [u32], p: Progress, place: usize, units: usize) -> Progress
+    requires { ⌜ (place + 2 * units ≤ length (now doc)) × (p .at + units ≤ length (now syms)) ⌝ }
+    ensures { λ r. ⌜ RowPut (unlessOut (p .depth) (unitsOf (part (now (doc .entry)) place (2 * units)))) (p .attribute) (p .depth) (now (syms .entry)) p (now (syms .exit)) r ⌝ }
+{
+    if p.depth == 0 {
+        return p;
+    }
+    let end = place + 2 * units;
+    moved(p, values::put_units(&doc[place..end], syms, cursor_of(p)))
+}
+
+// XSD-QNAME or another value; nothing for a byte that is no token, nor within a skipped attribute.
 fn put_valued(
-    table: &[u16; 256],
     alphabet: &[u8; 64],
     doc: &[u8],
-    qnames: &[u32],
-    classes: &[u32; 1024],
-    syms: &mut [u32; 307200],
-    at: usize,
-    q: u8,
+    marks: &[u32; 1024],
+    syms: &mut [u32],
+    i: Cursor,
     token: usize,
     a: usize,
     b: usize,
-) -> usize
-    requires { ⌜ Listed (now table) × Alphabet (now alphabet) × RowFits (length (now doc)) (now qnames) (now classes) token a b
-        × (length (now syms) ≡ 307200) × (at + 43 + 2 * sizeBy token b ≤ 307200) ⌝ }
-    ensures { λ r. ⌜ Put (now (syms .entry)) at (valueBy (now (doc .entry)) (now (qnames .entry)) (now (classes .entry)) q token a b) (now (syms .exit)) r ⌝ }
+) -> Cursor
+    requires { ⌜ Alphabet (now alphabet) × RowFits (now doc) token a b × (token < 0xA0)
+        × (i .at + roomBy token b ≤ length (now syms)) ⌝ }
+    ensures { λ r. ⌜ PutHashed (now (syms .entry)) i (countedBy (now (doc .entry)) (now (marks .entry)) token a b) (now (syms .exit)) r ⌝ }
 {
-    if q == 2 {
-        return at;
-    }
     if token == 0x8C {
-        return put_named(qnames, classes, a, 2, syms, at);
+        return values::put_one(syms, i, marks[a - 1] % 2147483648 + 2);
     }
     if token == 0 {
-        return at;
-    }
-    if 0xA0 <= token {
-        return at;
+        return i;
     }
     let end = a + b;
-    values::put_payload(table, alphabet, token as u8, &doc[a..end], syms, at)
+    values::put_payload(alphabet, token as u8, &doc[a..end], syms, i)
 }
 
-// What a row adds within a record, but for ELEMENT.
-fn put_inner(
-    table: &[u16; 256],
+// A value, within a record and outside of a skipped attribute.
+fn put_value(
     alphabet: &[u8; 64],
     doc: &[u8],
-    qnames: &[u32],
-    classes: &[u32; 1024],
-    syms: &mut [u32; 307200],
-    at: usize,
-    q: u8,
-    after: u8,
+    marks: &[u32; 1024],
+    syms: &mut [u32],
+    p: Progress,
     token: usize,
     a: usize,
     b: usize,
-) -> usize
-    requires { ⌜ Listed (now table) × Alphabet (now alphabet) × RowFits (length (now doc)) (now qnames) (now classes) token a b
-        × (length (now syms) ≡ 307200) × (at + 43 + 2 * sizeBy token b ≤ 307200) × (token ≡ 0xF8 → ⊥) ⌝ }
-    ensures { λ r. ⌜ Put (now (syms .entry)) at (codesBy (now (doc .entry)) (now (qnames .entry)) (now (classes .entry)) q after token a b) (now (syms .exit)) r ⌝ }
+) -> Progress
+    requires { ⌜ Alphabet (now alphabet) × RowFits (now doc) token a b × (token < 0xA0)
+        × (p .at + roomBy token b ≤ length (now syms)) ⌝ }
+    ensures { λ r. ⌜ RowPut (unlessOut (p .depth) (valueBy (now (doc .entry)) (now (marks .entry)) (p .attribute) token a b)) (p .attribute) (p .depth) (now (syms .entry)) p (now (syms .exit)) r ⌝ }
 {
-    match token {
-        0xF6 => {
-            return put_attribute(qnames, classes, a, syms, at, q, after);
-        }
-        0xF5 => {
-            return put_close(syms, at, q);
-        }
-        0xF7 => {
-            return values::put_one(syms, at, 65539);
-        }
-        0xF2 => {
-            let end = a + 2 * b;
-            return values::put_units(&doc[a..end], syms, at);
-        }
-        _ => {
-            return put_valued(
-                table,
-                alphabet,
-                doc,
-                qnames,
-                classes,
-                syms,
-                at,
-                q,
-                token,
-                a,
-                b,
-            );
-        }
+    if p.depth == 0 {
+        return p;
     }
-}
-
-// What a row adds; outside of a record only ELEMENT counts.
-fn put_row(
-    table: &[u16; 256],
-    alphabet: &[u8; 64],
-    doc: &[u8],
-    qnames: &[u32],
-    classes: &[u32; 1024],
-    syms: &mut [u32; 307200],
-    at: usize,
-    depth: usize,
-    q: u8,
-    after: u8,
-    token: usize,
-    a: usize,
-    b: usize,
-) -> usize
-    requires { ⌜ Listed (now table) × Alphabet (now alphabet) × RowFits (length (now doc)) (now qnames) (now classes) token a b
-        × (length (now syms) ≡ 307200) × (at + 43 + 2 * sizeBy token b ≤ 307200) ⌝ }
-    ensures { λ r. ⌜ Put (now (syms .entry)) at (rowBy (now (doc .entry)) (now (qnames .entry)) (now (classes .entry)) depth q after token a b) (now (syms .exit)) r ⌝ }
-{
-    if token == 0xF8 {
-        return put_named(qnames, classes, a, 0, syms, at);
+    if p.attribute == 2 {
+        return p;
     }
-    if depth == 0 {
-        return at;
-    }
-    put_inner(
-        table,
-        alphabet,
-        doc,
-        qnames,
-        classes,
-        syms,
-        at,
-        q,
-        after,
-        token,
-        a,
-        b,
+    moved(
+        p,
+        put_valued(alphabet, doc, marks, syms, cursor_of(p), token, a, b),
     )
 }
 
-// A record begins: where its meaning starts.
-fn put_start(starts: &mut [usize; 2049], n: usize, at: usize, depth: usize, token: usize) -> usize
-    requires { ⌜ (length (now starts) ≡ 2049) × (n < 2049) ⌝ }
-    ensures { λ r. ⌜ Put (now (starts .entry)) n (cond (beginsBy depth token) (at ∷ []) []) (now (starts .exit)) r ⌝ }
+// Any row but ELEMENT's and ENDELEMENT's.
+fn put_other(
+    alphabet: &[u8; 64],
+    doc: &[u8],
+    marks: &[u32; 1024],
+    syms: &mut [u32],
+    p: Progress,
+    token: usize,
+    a: usize,
+    b: usize,
+) -> Progress
+    requires { ⌜ Alphabet (now alphabet) × RowFits (now doc) token a b × (p .at + roomBy token b ≤ length (now syms))
+        × (token ≡ 0xF8 → ⊥) × (token ≡ 0xF7 → ⊥) ⌝ }
+    ensures { λ r. ⌜ RowPut (rowBy (now (doc .entry)) (now (marks .entry)) (p .depth) (p .attribute) token a b) (attributeBy (now (marks .entry)) (p .attribute) token a)
+        (depthBy (p .depth) token) (now (syms .entry)) p (now (syms .exit)) r ⌝ }
 {
-    if token != 0xF8 {
-        return n;
+    if token < 0xA0 {
+        return put_value(alphabet, doc, marks, syms, p, token, a, b);
     }
-    if depth != 0 {
-        return n;
+    match token {
+        0xF6 => put_attribute(marks, syms, p, a),
+        0xF5 => end_attributes(syms, p),
+        0xF2 => put_chunk(doc, syms, p, a, b),
+        _ => p,
     }
-    starts[n] = at;
-    n + 1
 }
 
-// How many elements are open after a row.
-fn depth_after(depth: usize, token: usize) -> usize
-    requires { ⌜ depth ≤ 4096 ⌝ }
-    ensures { λ r. ⌜ r ≡ depthBy depth token ⌝ }
+// Row k, of which the token and the first number were read.
+fn put_row(
+    alphabet: &[u8; 64],
+    doc: &[u8],
+    events: &[u32],
+    marks: &[u32; 1024],
+    syms: &mut [u32],
+    starts: &mut [usize; 2049],
+    hashes: &mut [u64; 2049],
+    p: Progress,
+    k: usize,
+    token: usize,
+    a: usize,
+) -> Progress
+    requires { ⌜ Alphabet (now alphabet) × RowFits (now doc) token a (getD (now events) (4 * k + 3) 0)
+        × (p .at + roomBy token (getD (now events) (4 * k + 3) 0) ≤ length (now syms)) × (k < 4096) × (4 * k + 4 ≤ length (now events))
+        × (p .records < 2049) × (p .depth ≤ 4096) × (length (now starts) ≡ 2049) × (length (now hashes) ≡ 2049) ⌝ }
+    ensures { λ r. ⌜ RowDone (now (doc .entry)) (now (marks .entry)) token a (getD (now (events .entry)) (4 * k + 3) 0)
+        (now (syms .entry)) (now (starts .entry)) (now (hashes .entry)) p (now (syms .exit)) (now (starts .exit)) (now (hashes .exit)) r ⌝ }
 {
     if token == 0xF8 {
-        return depth + 1;
+        return open(marks, syms, begin(starts, hashes, p), a);
     }
-    if token != 0xF7 {
-        return depth;
+    if token == 0xF7 {
+        return close(syms, p);
     }
-    if depth == 0 {
-        return 0;
-    }
-    depth - 1
+    let b = classes::cell(events, 4 * k + 3);
+    put_other(alphabet, doc, marks, syms, p, token, a, b)
 }
 
-// The meanings of all records, one after the other, and where each starts; gives their number.
+// The meanings of all records, one after the other, where each starts, and its hash; gives their number. The hash of record k
+// stands at place k + 1: at place 0 stands that of no number.
 pub fn render(
-    table: &[u16; 256],
     doc: &[u8],
     names: &[u32],
     qnames: &[u32],
@@ -345,44 +296,46 @@ pub fn render(
     rows: usize,
     qrows: usize,
     count: usize,
-    syms: &mut [u32; 307200],
+    syms: &mut [u32],
     starts: &mut [usize; 2049],
+    hashes: &mut [u64; 2049],
 ) -> usize
-    requires { ⌜ Listed (now table) × Drawable (now doc) (now names) (now qnames) (now events) (now classes) rows qrows count
-        × (length (now syms) ≡ 307200) × (length (now starts) ≡ 2049) ⌝ }
-    ensures { λ r. ⌜ Rendered (now (doc .entry)) (now (names .entry)) (now (qnames .entry)) (now (events .entry)) rows qrows count (now (syms .exit)) (now (starts .exit)) r ⌝ }
+    requires { ⌜ Renderable (now doc) (now names) (now qnames) (now events) (now classes) rows qrows count
+        × (roomFor (length (now doc)) count ≤ length (now syms)) × (length (now starts) ≡ 2049) × (length (now hashes) ≡ 2049) ⌝ }
+    ensures { λ r. ⌜ Rendered (now (doc .entry)) (now (names .entry)) (now (qnames .entry)) (now (events .entry)) rows qrows count
+        (now (syms .exit)) (now (starts .exit)) (now (hashes .exit)) r ⌝ }
 {
     let alphabet = blobtext::alphabet();
+    let mut marks = [1u32; 1024];
+    marks::fill(doc, names, qnames, classes, rows, qrows, &mut marks);
     let mut k = 0;
-    let mut n = 0;
-    let mut at = 0;
-    let mut depth = 0;
-    let mut q: u8 = 0;
+    let mut p = Progress {
+        at: 0,
+        hash: hash::SEED,
+        records: 0,
+        depth: 0,
+        attribute: 0,
+    };
     while k < count {
         let token = classes::cell(events, 4 * k);
         let a = classes::cell(events, 4 * k + 2);
-        let b = classes::cell(events, 4 * k + 3);
-        n = put_start(starts, n, at, depth, token);
-        let after = attribute_after(doc, names, qnames, classes, rows, q, token, a);
-        at = put_row(
-            table,
+        p = put_row(
             &alphabet,
             doc,
-            qnames,
-            classes,
+            events,
+            &marks,
             syms,
-            at,
-            depth,
-            q,
-            after,
+            starts,
+            hashes,
+            p,
+            k,
             token,
             a,
-            b,
         );
-        depth = depth_after(depth, token);
-        q = after;
         k += 1;
     }
-    starts[n] = at;
+    let n = p.records;
+    starts[n] = p.at;
+    hashes[n] = p.hash;
     n
 }

@@ -1,3 +1,4 @@
 pub mod Modes
 pub mod Steps
 pub mod Bounds
+pub mod Common

@@ -16,7 +16,7 @@ use Rattle.token.specs.Answers.{longest}
 use Rattle.token.specs.Tokens.{shapeOf}
 use Rattle.value.specs.Rules.{lawful}
 use Rattle.numeral.specs.Numeral.{truth}
-use Rattle.numeral.specs.Chunks.{valueOf}
+use Rattle.numeral.specs.Chunks.{wordSize, valueOf}
 use Rattle.numeral.proofs.Facts.{at-most-41}
 use Rattle.blobtext.proofs.Hex.{length-hex}
 use Rattle.blobtext.proofs.Base64.{length-base64}
@@ -51,7 +51,7 @@ text-told token p units e =
 
 -- ---- numbers
 
-word-below : (p : List ℕ) → Bytes p → length p ≤ 8 → little p < 10 ^ 39
+word-below : (p : List ℕ) → Bytes p → wordSize (length p) ≡ true → little p < 10 ^ 39
 word-below p b h = let l = little-below p b in word-small (length p) (let q : little p ≤ 256 ^ length p = omega arith in q) h
 
 signed-short : (p : List ℕ) (scale : ℕ) → Bytes p → Ruled (Signed scale) p → length (signedText p scale) ≤ 41
@@ -59,8 +59,8 @@ unfolding signedText
 signed-short p scale b k =
     let m : 256 ^ length p - little p ≤ 256 ^ length p = omega arith in
     cond-if (λ (x : List ℕ). length x ≤ 41) (leb (256 ^ length p / 2) (little p)) _ _
-    (λ t. at-most-41 true (256 ^ length p - little p) scale (word-small (length p) m (k .1)) (k .2))
-    (λ f. at-most-41 false (little p) scale (word-below p b (k .1)) (k .2))
+    (λ t. at-most-41 true (256 ^ length p - little p) scale (word-small (length p) m (k .0)) (k .1))
+    (λ f. at-most-41 false (little p) scale (word-below p b (k .0)) (k .1))
 
 truth-short : (t : Bool) → length (truth t) ≤ 41
 truth-short true = lit≤ tt

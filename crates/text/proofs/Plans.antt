@@ -1,14 +1,12 @@
 -- Each way out of the functions that make a plan, as a law of the definitions. Assumes nothing.
 use Prim.Native.Nat.{ℕ, suc, _+_, _-_, _*_, _/_, _%_, _^_, _≤_, _<_}
-use mathlib.Core.Path.{_≡_, refl, sym, _∙_, ap, subst}
+use mathlib.Core.Path.{_≡_, refl, sym, _∙_, subst}
 use mathlib.Core.Bool.{Bool, true, false, not}
 use mathlib.Core.Option.{Option}
 use mathlib.Core.List.{List, [], _∷_}
-use native.Mathlib.Nat.{lt-of-lt-of-le, pow-le-pow-right, pow-succ'}
-use native.Mathlib.Numerals.{add-one}
+use native.Mathlib.Nat.{lt-of-lt-of-le, pow-le-pow-right}
 use native.Mathlib.Omega.{arith}
 use lib.ListN.{length, getD, drop}
-use lib.Seq.{slice, take-all}
 use lib.Dec.{eqb, lit≤}
 use Rattle.lists.specs.Lists.{little, unitsOf}
 use Rattle.lists.proofs.Tests.{tests}
@@ -17,7 +15,8 @@ use Rattle.token.specs.Tokens.{shapeOf}
 use Rattle.token.specs.declared.Shape.{Shape}
 use Rattle.value.specs.Rules.{decimalLawful, lawful}
 use Rattle.numeral.specs.declared.Chunks.{Chunks}
-use Rattle.numeral.specs.Chunks.{valueOf, Chunked}
+use Rattle.numeral.specs.Chunks.{wordSize, valueOf, Chunked}
+use Rattle.numeral.proofs.Words.{size-within}
 use Rattle.text.specs.declared.Kind.{Kind}
 use Rattle.text.specs.declared.Kind.the-variants.{Unshown, Same, Signed, Unsigned, Truth, Decimal, Hex, Base64}
 use Rattle.text.specs.declared.Plan.{Plan}
@@ -26,45 +25,32 @@ use Rattle.text.specs.Text.{kindOf, signedText, shown, textOf, isSame}
 use Rattle.text.specs.Plans.{Ruled, Means}
 use Rattle.text.proofs.Rules.{decimal-sized}
 
--- ---- numbers of one to eight bytes
+-- ---- numbers of 1, 2, 4 and 8 bytes
 
-pub half-next : (half i : ℕ) → half + half ≡ 256 ^ i → half * 256 + half * 256 ≡ 256 ^ (i + 1)
-half-next half i h = rw (add-one, pow-succ') (omega arith)
-
-pub half-fits : (half i width : ℕ) → half + half ≡ 256 ^ i → i < width → width ≤ 8 → half * 256 < 2 ^ 64
-half-fits half i width h l w =
-    let p : 256 ^ suc i ≤ 256 ^ 8 = pow-le-pow-right {n = 256} (omega arith) (let q : suc i ≤ 8 = omega arith in q) in
-    let e = pow-succ' 256 i in
-    omega arith
-
-all-of : (p : List ℕ) {v : ℕ} → v ≡ little (slice 0 (length p) p) → v ≡ little p
-all-of p e = e ∙ ap little (take-all (length p) p (let q : length p ≤ length p = omega arith in q))
-
--- a number of at most eight bytes is below 10 ^ 39
-pub word-small : {x : ℕ} (w : ℕ) → x ≤ 256 ^ w → w ≤ 8 → x < 10 ^ 39
+-- such a number is below 10 ^ 39
+pub word-small : {x : ℕ} (w : ℕ) → x ≤ 256 ^ w → wordSize w ≡ true → x < 10 ^ 39
 word-small {x} w h k =
-    let p : 256 ^ w ≤ 256 ^ 8 = pow-le-pow-right {n = 256} (omega arith) k in
+    let p : 256 ^ w ≤ 256 ^ 8 = pow-le-pow-right {n = 256} (omega arith) (size-within w k .1) in
     lt-of-lt-of-le (let q : x < suc (256 ^ 8) = omega arith in q) (lit≤ tt)
 
-less-zero : (v w : ℕ) → v < 256 ^ (w - 0) → v < 256 ^ w
-less-zero v w h = let z : w - 0 ≡ w = omega arith in rw z at h
+pub half-at : (n half : ℕ) {width : ℕ} → width ≡ n → half + half ≡ 256 ^ n → half + half ≡ 256 ^ width
+half-at n half e h = rw e h
 
-pub half-sub : (half v w : ℕ) → half + half ≡ 256 ^ w → v < 256 ^ (w - 0) → v - half ≤ half
-half-sub half v w e h = let f = less-zero v w h in omega arith
+pub half-sub : (half v w : ℕ) → half + half ≡ 256 ^ w → v < 256 ^ w → v - half ≤ half
+half-sub half v w e h = omega arith
 
 module _ (p : List ℕ) (scale : ℕ) (n : Chunks) {v half : ℕ} (g : Chunked n) (k : Ruled (Signed scale) p)
-    (e : v ≡ little (slice 0 (length p) p)) (f : v < 256 ^ (length p - 0)) (d : half + half ≡ 256 ^ length p) where
+    (e : v ≡ little p) (f : v < 256 ^ length p) (d : half + half ≡ 256 ^ length p) where
   pub signed-minus : half ≤ v → valueOf n ≡ half - (v - half) → Means (shown (Signed scale) p) false p (Number true n scale)
   unfolding shown signedText
   signed-minus h x =
-      let f = less-zero v (length p) f in
       let z : 256 ^ length p / 2 ≡ half = omega arith in
       let y : valueOf n ≡ 256 ^ length p - v = omega arith in
       let q : valueOf n ≤ 256 ^ length p = omega arith in
       record {
-        text-is = simp (tests, z, ← all-of p e, h, y);
+        text-is = simp (tests, z, ← e, h, y);
         own-is = refl;
-        number-fits = (g, k .2, word-small (length p) q (k .1));
+        number-fits = (g, k .1, word-small (length p) q (k .0));
         payload-fits = tt;
       }
 
@@ -74,20 +60,19 @@ module _ (p : List ℕ) (scale : ℕ) (n : Chunks) {v half : ℕ} (g : Chunked n
       let z : 256 ^ length p / 2 ≡ half = omega arith in
       let q : valueOf n ≤ 256 ^ length p = omega arith in
       record {
-        text-is = simp (tests, z, ← all-of p e, h, x);
+        text-is = simp (tests, z, ← e, h, x);
         own-is = refl;
-        number-fits = (g, k .2, word-small (length p) q (k .1));
+        number-fits = (g, k .1, word-small (length p) q (k .0));
         payload-fits = tt;
       }
 
-pub unsigned-is : (p : List ℕ) (n : Chunks) {v : ℕ} → Chunked n → Ruled Unsigned p → v ≡ little (slice 0 (length p) p)
-    → v < 256 ^ (length p - 0) → valueOf n ≡ v → Means (shown Unsigned p) false p (Number false n 0)
+pub unsigned-is : (p : List ℕ) (n : Chunks) {v : ℕ} → Chunked n → Ruled Unsigned p → v ≡ little p → v < 256 ^ length p
+    → valueOf n ≡ v → Means (shown Unsigned p) false p (Number false n 0)
 unfolding shown
 unsigned-is p n {v} g k e f x =
-    let f = less-zero v (length p) f in
     let q : valueOf n ≤ 256 ^ length p = omega arith in
     record {
-      text-is = simp (← all-of p e, x);
+      text-is = simp (← e, x);
       own-is = refl;
       number-fits = (g, lit≤ tt, word-small (length p) q k);
       payload-fits = tt;
@@ -155,11 +140,11 @@ module _ (token : ℕ) (p : List ℕ) (l : length p ≤ longest) {shape : Shape}
   pub text-lawful : t ≡ true → lawful (shapeOf token) p ≡ true
   text-lawful e = sym judged ∙ e
 
-  pub text-kept : t ≡ true → {kind : Kind} {r : Plan} → kind ≡ kindOf token → Means (shown kind p) (isSame kind) p r
-      → Means (textOf token p) (isSame (kindOf token)) p r
-  unfolding textOf
-  text-kept e {r = r} k m =
-      let f : lawful (shapeOf token) p ≡ true = text-lawful e in
-      let z : shown (kindOf token) p ≡ textOf token p = simp (tests, l, f) in
-      let n = subst (λ (x : Kind). Means (shown x p) (isSame x) p r) k m in
-      subst (λ (x : Option (List ℕ)). Means x (isSame (kindOf token)) p r) z n
+-- a payload that is not too long and obeys its rule has the text of its kind
+pub text-kept : (token : ℕ) (p : List ℕ) → lawful (shapeOf token) p ≡ true → length p ≤ longest
+    → {kind : Kind} {r : Plan} → kind ≡ kindOf token → Means (shown kind p) (isSame kind) p r → Means (textOf token p) (isSame (kindOf token)) p r
+unfolding textOf
+text-kept token p f l {r = r} k m =
+    let z : shown (kindOf token) p ≡ textOf token p = simp (tests, l, f) in
+    let n = subst (λ (x : Kind). Means (shown x p) (isSame x) p r) k m in
+    subst (λ (x : Option (List ℕ)). Means x (isSame (kindOf token)) p r) z n

@@ -1,16 +1,17 @@
 -- What a token's rule says of a payload of its kind, row by row of the list of kinds. Assumes nothing.
-use Prim.Native.Nat.{ℕ, _-_, _%_, _≤_, _<_}
+use Prim.Native.Nat.{ℕ, _-_, _%_, _≤_}
 use mathlib.Core.Path.{_≡_, refl, sym, subst}
 use mathlib.Core.Bool.{Bool, true, false, _&&_, _||_}
 use mathlib.Core.Logic.{_⊎_, inl, inr, ⊎-elim}
 use mathlib.Core.List.{List, [], _∷_}
 use native.Mathlib.Omega.{arith}
 use lib.ListN.{length, getD}
-use lib.Dec.{eqb, leb, lit<, lit≤}
+use lib.Dec.{eqb, leb, lit≤}
 use borrow.Author.Tests.{eqb-true, leb-true, ne-eqb}
 use Rattle.lists.proofs.Tests.{and-left, and-right, cond-if}
 use Rattle.token.specs.Tokens.{shapeOf}
 use Rattle.value.specs.Rules.{decimalSize, decimalLawful, lawful}
+use Rattle.numeral.specs.Chunks.{wordSize}
 use Rattle.text.specs.declared.Kind.{Kind}
 use Rattle.text.specs.declared.Kind.the-variants.{Unshown, Signed, Unsigned}
 use Rattle.text.specs.Text.{kinds, kindIn, kindOf}
@@ -49,11 +50,11 @@ unfolding kindOf
 unlisted token h = sym (past-rows token (Unit {0}) kinds h .1)
 
 -- a payload of a fixed size
-signed-rule : (p : List ℕ) (size scale : ℕ) → 0 < size → size ≤ 8 → scale ≤ 38 → eqb (length p) size ≡ true → Ruled (Signed scale) p
-signed-rule p size scale a b c e = let z : length p ≡ size = eqb-true _ _ e in (omega arith, omega arith, c)
+unsigned-rule : (p : List ℕ) (size : ℕ) → wordSize size ≡ true → eqb (length p) size ≡ true → Ruled Unsigned p
+unsigned-rule p size w e = rw (eqb-true (length p) size e) w
 
-unsigned-rule : (p : List ℕ) (size : ℕ) → size ≤ 8 → eqb (length p) size ≡ true → Ruled Unsigned p
-unsigned-rule p size b e = let z : length p ≡ size = eqb-true _ _ e in omega arith
+signed-rule : (p : List ℕ) (size scale : ℕ) → wordSize size ≡ true → scale ≤ 38 → eqb (length p) size ≡ true → Ruled (Signed scale) p
+signed-rule p size scale w c e = (unsigned-rule p size w e, c)
 
 module _ (token : ℕ) (p : List ℕ) (h : lawful (shapeOf token) p ≡ true) where
   at : {code : ℕ} → token ≡ code → lawful (shapeOf code) p ≡ true
@@ -61,20 +62,20 @@ module _ (token : ℕ) (p : List ℕ) (h : lawful (shapeOf token) p ≡ true) wh
 
   -- what the rule of a token says of a payload of its kind
   pub ruled : Ruled (kindOf token) p
-  unfolding kindOf shapeOf lawful
+  unfolding kindOf shapeOf lawful wordSize
   ruled =
       of-kind (λ (kind : Kind). Ruled kind p) token kinds (
-        (λ e. signed-rule p 2 0 (lit< tt) (lit≤ tt) (lit≤ tt) (at e)),
+        (λ e. signed-rule p 2 0 refl (lit≤ tt) (at e)),
         (
-          (λ e. signed-rule p 4 0 (lit< tt) (lit≤ tt) (lit≤ tt) (at e)),
+          (λ e. signed-rule p 4 0 refl (lit≤ tt) (at e)),
           (
-            (λ e. signed-rule p 8 4 (lit< tt) (lit≤ tt) (lit≤ tt) (at e)),
+            (λ e. signed-rule p 8 4 refl (lit≤ tt) (at e)),
             (
-              (λ e. unsigned-rule p 1 (lit≤ tt) (at e)),
+              (λ e. unsigned-rule p 1 refl (at e)),
               (
-                (λ e. signed-rule p 1 0 (lit< tt) (lit≤ tt) (lit≤ tt) (at e)),
+                (λ e. signed-rule p 1 0 refl (lit≤ tt) (at e)),
                 (
-                  (λ e. signed-rule p 8 0 (lit< tt) (lit≤ tt) (lit≤ tt) (at e)),
+                  (λ e. signed-rule p 8 0 refl (lit≤ tt) (at e)),
                   (
                     (λ e. at e),
                     (
@@ -88,7 +89,7 @@ module _ (token : ℕ) (p : List ℕ) (h : lawful (shapeOf token) p ≡ true) wh
                             (
                               (λ e. eqb-true _ _ (at e)),
                               (
-                                (λ e. signed-rule p 4 4 (lit< tt) (lit≤ tt) (lit≤ tt) (at e)),
+                                (λ e. signed-rule p 4 4 refl (lit≤ tt) (at e)),
                                 (
                                   (λ e. tt),
                                   (
@@ -104,13 +105,13 @@ module _ (token : ℕ) (p : List ℕ) (h : lawful (shapeOf token) p ≡ true) wh
                                             (
                                               (λ e. at e),
                                               (
-                                                (λ e. unsigned-rule p 1 (lit≤ tt) (at e)),
+                                                (λ e. unsigned-rule p 1 refl (at e)),
                                                 (
-                                                  (λ e. unsigned-rule p 2 (lit≤ tt) (at e)),
+                                                  (λ e. unsigned-rule p 2 refl (at e)),
                                                   (
-                                                    (λ e. unsigned-rule p 4 (lit≤ tt) (at e)),
+                                                    (λ e. unsigned-rule p 4 refl (at e)),
                                                     (
-                                                      (λ e. unsigned-rule p 8 (lit≤ tt) (at e)),
+                                                      (λ e. unsigned-rule p 8 refl (at e)),
                                                       tt,
                                                     ),
                                                   ),

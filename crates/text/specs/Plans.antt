@@ -9,7 +9,7 @@ use Rattle.lists.specs.Lists.{bytesOf, unitsOf}
 use Rattle.token.specs.Answers.{longest}
 use Rattle.value.specs.Rules.{decimalLawful}
 use Rattle.numeral.specs.Numeral.{numeral, truth}
-use Rattle.numeral.specs.Chunks.{valueOf, Chunked, Ends}
+use Rattle.numeral.specs.Chunks.{wordSize, valueOf, Chunked, Ends}
 use Rattle.blobtext.specs.Blobtext.{hex, base64}
 use Rattle.text.specs.declared.Kind.{Kind}
 use Rattle.text.specs.declared.Kind.the-variants.{Unshown, Same, Signed, Unsigned, Truth, Decimal, Hex, Base64}
@@ -22,8 +22,8 @@ use Rattle.text.specs.Text.{laid, laidIn}
 abbrev pub Ruled : Kind → List ℕ → Type 0
 Ruled Unshown p = Unit
 Ruled Same p = length p % 2 ≡ 0
-Ruled (Signed scale) p = (0 < length p) × (length p ≤ 8) × (scale ≤ 38)
-Ruled Unsigned p = length p ≤ 8
+Ruled (Signed scale) p = (wordSize (length p) ≡ true) × (scale ≤ 38)
+Ruled Unsigned p = wordSize (length p) ≡ true
 Ruled Truth p = length p ≡ 1
 Ruled Decimal p = decimalLawful p ≡ true
 Ruled Hex p = Unit

@@ -5,8 +5,10 @@ ghost use mathlib.Core.Bool.{false, true};
 ghost use Prim.Native.Nat.{_+_, _*_, _^_, _≤_, _<_};
 ghost use lib.ListN.{length, take, getD};
 ghost use Rattle.token.specs.Entries.{Listed};
+ghost use Rattle.token.specs.Tokens.{shapeOf};
+ghost use Rattle.value.specs.Rules.{lawful};
 ghost use Rattle.numeral.specs.Numeral.{numeral, truth};
-ghost use Rattle.numeral.specs.Chunks.{valueOf, Chunked};
+ghost use Rattle.numeral.specs.Chunks.{wordSize, valueOf, Chunked};
 ghost use Rattle.blobtext.specs.Blobtext.{hex, base64, Alphabet};
 ghost use Rattle.text.specs.Text.{kindOf, shown, textOf, isSame, Shows, partOf};
 ghost use Rattle.text.specs.Plans.{Ruled, unitsBy, NumberFits, PayloadFits, Means, Lays, LaysEnd, Begins, Loaded};
@@ -97,16 +99,15 @@ fn kind_of(token: u8) -> Kind
 
 // Half of 256 ^ width: the first number of so many bytes that is below zero.
 fn half_of(width: usize) -> u64
-    requires { ⌜ (0 < width) × (width ≤ 8) ⌝ }
+    requires { ⌜ wordSize width ≡ true ⌝ }
     ensures { λ r. ⌜ r + r ≡ 256 ^ width ⌝ }
 {
-    let mut half: u64 = 128;
-    let mut i: usize = 1;
-    while i < width {
-        half *= 256;
-        i += 1;
+    match width {
+        1 => 128,
+        2 => 32768,
+        4 => 2147483648,
+        _ => 9223372036854775808,
     }
-    half
 }
 
 // The plan of a signed number.
@@ -114,7 +115,7 @@ fn signed(p: &[u8], scale: usize) -> Plan
     requires { ⌜ Ruled (Kind.Signed scale) (now p) ⌝ }
     ensures { λ r. ⌜ Means (shown (Kind.Signed scale) (now (p .entry))) false (now (p .entry)) r ⌝ }
 {
-    let value = numeral::little_at(p, 0, p.len());
+    let value = numeral::word_of(p);
     let half = half_of(p.len());
     if half <= value {
         let size = numeral::of_word(half - (value - half));
@@ -137,7 +138,7 @@ fn unsigned(p: &[u8]) -> Plan
     requires { ⌜ Ruled Kind.Unsigned (now p) ⌝ }
     ensures { λ r. ⌜ Means (shown Kind.Unsigned (now (p .entry))) false (now (p .entry)) r ⌝ }
 {
-    let size = numeral::of_word(numeral::little_at(p, 0, p.len()));
+    let size = numeral::of_word(numeral::word_of(p));
     Plan::Number {
         minus: false,
         size,
@@ -183,6 +184,14 @@ fn plan_kind(kind: Kind, p: &[u8]) -> Plan
     }
 }
 
+// The plan of a payload that is known to obey its token's rule and not to be too long: neither is tested again.
+pub fn plan_lawful(token: u8, payload: &[u8]) -> Plan
+    requires { ⌜ (lawful (shapeOf token) (now payload) ≡ true) × (length (now payload) ≤ 65536) ⌝ }
+    ensures { λ r. ⌜ Means (textOf token (now (payload .entry))) (isSame (kindOf token)) (now (payload .entry)) r ⌝ }
+{
+    plan_kind(kind_of(token), payload)
+}
+
 // The plan of a token's payload; `table` is the table of tokens, made once and lent.
 pub fn plan_at(table: &[u16; 256], token: u8, payload: &[u8]) -> Plan
     requires { ⌜ Listed (now table) ⌝ }
@@ -192,7 +201,7 @@ pub fn plan_at(table: &[u16; 256], token: u8, payload: &[u8]) -> Plan
         return Plan::Nothing;
     }
     if value::obeys(token::shape_at(table, token), payload) {
-        return plan_kind(kind_of(token), payload);
+        return plan_lawful(token, payload);
     }
     Plan::Nothing
 }

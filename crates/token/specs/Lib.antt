@@ -1,3 +1,4 @@
 pub mod Answers
 pub mod Tokens
 pub mod Entries
+pub mod Fixed

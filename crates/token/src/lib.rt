@@ -4,6 +4,7 @@ ghost use mathlib.Core.Path.{_≡_};
 ghost use Prim.Native.Nat.{ℕ, _<_};
 ghost use Rattle.token.specs.Tokens.{classOf, shapeOf};
 ghost use Rattle.token.specs.Entries.{Listed, classIn, shapeIn};
+ghost use Rattle.token.specs.Fixed.{fixedBy, fixedOf};
 
 // The bounds of 01, "Numbers that bound the work".
 pub const LONGEST: usize = 65536;
@@ -456,6 +457,20 @@ fn shape_from(entry: u16) -> Shape
     }
 }
 
+// The keys are the class of a value, 1, times 32, plus the shape's number.
+fn fixed_from(entry: u16) -> usize
+    ensures { λ r. ⌜ r ≡ fixedBy (classIn entry) (shapeIn entry) ⌝ }
+{
+    match entry {
+        33 => 1,
+        34 => 2,
+        35 => 4,
+        36 => 8,
+        37 => 16,
+        _ => 0,
+    }
+}
+
 // The class of a token byte.
 pub fn class_at(table: &[u16; 256], token: u8) -> Class
     requires { ⌜ Listed (now table) ⌝ }
@@ -470,4 +485,13 @@ pub fn shape_at(table: &[u16; 256], token: u8) -> Shape
     ensures { λ r. ⌜ r ≡ shapeOf token ⌝ }
 {
     shape_from(table[token as usize])
+}
+
+// The size in bytes of a token's payload, where the token is a value of every version that has always the same size; 0
+// for every other token. One look at the entry spares the two of a class and a shape.
+pub fn fixed_at(table: &[u16; 256], token: u8) -> usize
+    requires { ⌜ Listed (now table) ⌝ }
+    ensures { λ r. ⌜ r ≡ fixedOf token ⌝ }
+{
+    fixed_from(table[token as usize])
 }

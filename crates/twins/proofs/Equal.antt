@@ -1,44 +1,41 @@
--- `same` is true exactly of equal lists. Assumes nothing.
-use Prim.Native.Nat.{ℕ}
-use mathlib.Core.Path.{_≡_, refl, sym, _∙_}
-use mathlib.Core.List.{List, [], _∷_}
+-- The test `same` of two lists: where they are equal, where they are not, and after a comparison of their elements.
+-- Assumes nothing.
+use Prim.Native.Nat.{ℕ, _≤_, _<_}
+use mathlib.Core.Path.{_≡_, refl, sym, ap, _∙_}
+use mathlib.Core.List.{List}
 use mathlib.Core.Bool.{Bool, true, false}
 use native.Mathlib.Omega.{arith}
-use lib.Dec.{eqb}
-use borrow.Author.Tests.{eq-eqb, eqb-true}
-use Rattle.lists.proofs.Tests.{and-left, and-right}
+use lib.ListN.{length, getD}
+use lib.Seq.{ext-getD}
 use Rattle.meaning.specs.Meaning.{same}
+use Rattle.meaning.proofs.Same.{never, same-list}
 
-pub never : {P : Type 0} → false ≡ true → P
-never e = absurd (let z : _≡_ {A = ℕ} 0 1 = cc in let q : ⊥ = omega arith in q)
+module _ (a b : List ℕ) where
+  pub same-true : same a b ≡ true → a ≡ b
+  same-true = same-list a b .0
 
-pub same-refl : (a : List ℕ) → same a a ≡ true
-same-refl [] = refl
-same-refl (x ∷ a) = rw (eq-eqb x x refl) (same-refl a)
+  pub same-of : a ≡ b → same a b ≡ true
+  same-of = same-list a b .1
 
-pub same-true : (a b : List ℕ) → same a b ≡ true → a ≡ b
-same-true [] [] e = refl
-same-true [] (y ∷ b) e = never e
-same-true (x ∷ a) [] e = never e
-same-true (x ∷ a) (y ∷ b) e =
-    let p : x ≡ y = eqb-true x y (and-left (eqb x y) (same a b) e) in
-    let q : a ≡ b = same-true a b (and-right (eqb x y) (same a b) e) in
-    cc
+  pub not-same : (a ≡ b → ⊥) → false ≡ same a b
+  not-same h = go (same a b) refl
+    where
+      go : (t : Bool) → same a b ≡ t → false ≡ t
+      go true e = absurd (h (same-true e))
+      go false e = refl
 
-pub same-of : (a b : List ℕ) → a ≡ b → same a b ≡ true
-same-of a b e = rw e (same-refl b)
+  pub differ : same a b ≡ false → a ≡ b → ⊥
+  differ e q = never (sym e ∙ same-of q)
 
--- a test that is true exactly of equal lists
-pub is-same : (t : Bool) (a b : List ℕ) → (t ≡ true → a ≡ b) × (a ≡ b → t ≡ true) → t ≡ same a b
-is-same t a b (f, g) = go t (same a b) (λ e. same-of a b (f e)) (λ e. g (same-true a b e))
-  where
-    go : (t u : Bool) → (t ≡ true → u ≡ true) → (u ≡ true → t ≡ true) → t ≡ u
-    go true u p q = sym (p refl)
-    go false true p q = q refl
-    go false false p q = refl
+  pub differ-at : (k : ℕ) → (getD a k 0 ≡ getD b k 0 → ⊥) → false ≡ same a b
+  differ-at k h = not-same (λ e. h (ap (λ (l : List ℕ). getD l k 0) e))
 
-pub not-same : (a b : List ℕ) → (a ≡ b → ⊥) → false ≡ same a b
-not-same a b h = is-same false a b (λ e. never e, λ e. absurd (h e))
+  -- the elements below i are equal
+  abbrev pub Agree : ℕ → Type 0
+  Agree i = (k : ℕ) → k < i → getD a k 0 ≡ getD b k 0
 
-pub differ : (a b : List ℕ) → same a b ≡ false → a ≡ b → ⊥
-differ a b e q = never (sym e ∙ same-of a b q)
+  pub agree-all : (i : ℕ) → length a ≡ length b → length a ≤ i → Agree i → true ≡ same a b
+  agree-all i e g f = sym (same-of (ext-getD 0 a b e (λ k h. f k (reach k h))))
+    where
+      reach : (k : ℕ) → k < length a → k < i
+      reach k h = omega arith

@@ -1,7 +1,4 @@
-pub mod Carry
-pub mod Bits
 pub mod Equal
-pub mod Fold
 pub mod Ends
 pub mod Twins
 pub mod Chain

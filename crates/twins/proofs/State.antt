@@ -10,10 +10,11 @@ use lib.Dec.{eqb, leb}
 use borrow.Author.Tests.{eqb-true, eqb-false, le-leb, lt-leb}
 use lib.ListN.{length, getD, set, length-set, length-append, length-map}
 use lib.Seq.{getD-set-same, getD-set-other}
+use Rattle.hash.specs.Hash.{hashOf}
 use Rattle.meaning.specs.Meaning.{same}
 use Rattle.meaning.specs.Pairs.{pair, pairsOf}
 use Rattle.twins.specs.Parts.{partAt, partsOf, Next, Linked}
-use Rattle.twins.specs.Search.{hashOf, slotOf, Head, Chained, Nexts, twinsOf, pairsAfter}
+use Rattle.twins.specs.Search.{slotOf, Head, Chained, Nexts, twinsOf, pairsAfter}
 use Rattle.twins.proofs.Chain.{split}
 use Rattle.twins.proofs.Links.{linked-of, pairs-all}
 use Rattle.twins.proofs.Twins.{twins-next, twins-end, twins-few, pairs-step, pairs-none}
@@ -36,16 +37,15 @@ extend P l n i v h f p k a b = ⊎-elim
     above : i < k → k ≡ i → ⊥
     above g e = omega arith
 
-pub record State (m : ℕ → List ℕ) (n i : ℕ) (next slots chain hashes later : List ℕ) (pairs : ℕ) : Type 0 where
+pub record State (m : ℕ → List ℕ) (n i : ℕ) (next slots chain later : List ℕ) (pairs : ℕ) : Type 0 where
   pub in-range : i ≤ n
   pub next-long : length next ≡ 2048
   pub slots-long : length slots ≡ 4096
   pub chain-long : length chain ≡ 2048
-  pub hashes-long : length hashes ≡ 2048
   pub later-long : length later ≡ 2048
   pub nexts : Nexts m n i next
   pub heads : (b : ℕ) → b < 4096 → Head (λ x. slotOf (m x)) n b i (getD slots b 0)
-  pub chained : Chained m n i hashes chain
+  pub chained : Chained m n i chain
   pub laters : (k : ℕ) → i ≤ k → k < n → getD later k 0 ≡ length (twinsOf m n k)
   pub sum : pairs ≡ length (pairsAfter m n i)
   pub bound : pairs ≤ 2048 * (n - i)
@@ -105,11 +105,11 @@ module _ (m : ℕ → List ℕ) (n : ℕ) where
       }
 
   -- one turn of the loop
-  pub turned : (i : ℕ) (next slots chain hashes later : List ℕ) (pairs : ℕ) → n ≤ 2048 → i < n
-      → State m n (i + 1) next slots chain hashes later pairs → (h s j l : ℕ) → h ≡ hashOf (m i) → s ≡ h % 4096
+  pub turned : (i : ℕ) (next slots chain later : List ℕ) (pairs : ℕ) → n ≤ 2048 → i < n
+      → State m n (i + 1) next slots chain later pairs → (h s j l : ℕ) → h ≡ hashOf (m i) → s ≡ h % 4096
       → Next m n i j → l ≡ cond (leb n j) 0 (getD later j 0 + 1)
-      → State m n i (set next i j) (set slots s i) (set chain i (getD slots s 0)) (set hashes i h) (set later i l) (pairs + l)
-  turned i next slots chain hashes later pairs few lt st h s j l eh es nx el =
+      → State m n i (set next i j) (set slots s i) (set chain i (getD slots s 0)) (set later i l) (pairs + l)
+  turned i next slots chain later pairs few lt st h s j l eh es nx el =
       let w : s ≡ slotOf (m i) = es ∙ ap (λ (x : ℕ). x % 4096) eh in
       let sb : s < 4096 = omega arith in
       let c : l ≡ length (twinsOf m n i) =
@@ -120,12 +120,10 @@ module _ (m : ℕ → List ℕ) (n : ℕ) where
         next-long = simp length-set (st .next-long);
         slots-long = simp length-set (st .slots-long);
         chain-long = simp length-set (st .chain-long);
-        hashes-long = simp length-set (st .hashes-long);
         later-long = simp length-set (st .later-long);
         nexts = extend (λ k v. Next m n k v) next n i j (omega (arith, st .next-long)) (st .nexts) nx;
         heads = head-more slots i (st .slots-long) lt (st .heads) s w;
         chained = record {
-          hashed = extend (λ k v. v ≡ hashOf (m k)) hashes n i h (omega (arith, st .hashes-long)) (st .chained .hashed) eh;
           linked = extend (λ k v. Next (λ x. slotOf (m x)) n k v) chain n i _ (omega (arith, st .chain-long)) (st .chained .linked)
               (link-more i _ s w (st .heads s sb));
         };
@@ -135,21 +133,20 @@ module _ (m : ℕ → List ℕ) (n : ℕ) where
       }
 
   -- before the loop
-  pub begun : (next slots chain hashes later : List ℕ) → length next ≡ 2048 → length slots ≡ 4096 → length chain ≡ 2048
-      → length hashes ≡ 2048 → length later ≡ 2048 → ((b : ℕ) → b < 4096 → getD slots b 0 ≡ n)
-      → State m n n next slots chain hashes later 0
-  begun next slots chain hashes later l0 l1 l2 l3 l4 f =
+  pub begun : (next slots chain later : List ℕ) → length next ≡ 2048 → length slots ≡ 4096 → length chain ≡ 2048
+      → length later ≡ 2048 → ((b : ℕ) → b < 4096 → getD slots b 0 ≡ n)
+      → State m n n next slots chain later 0
+  begun next slots chain later l0 l1 l2 l3 f =
       record {
         in-range = omega arith;
         next-long = l0;
         slots-long = l1;
         chain-long = l2;
-        hashes-long = l3;
-        later-long = l4;
+        later-long = l3;
         nexts = λ k a b. absurd (no k a b);
         heads = λ b c. rw (f b c)
             (record { from = omega arith; within = omega arith; none = λ x a d w. no x a d; hits = λ q. absurd (never q) });
-        chained = record { hashed = λ k a b. absurd (no k a b); linked = λ k a b. absurd (no k a b) };
+        chained = record { linked = λ k a b. absurd (no k a b) };
         laters = λ k a b. absurd (no k a b);
         sum = sym (ap length (pairs-none m n n (omega arith)));
         bound = omega arith;
@@ -161,8 +158,8 @@ module _ (m : ℕ → List ℕ) (n : ℕ) where
       never : n < n → ⊥
       never q = omega arith
 
-  pub turn-few : (i j l : ℕ) {next slots chain hashes later : List ℕ} {pairs : ℕ}
-      → State m n (i + 1) next slots chain hashes later pairs → Next m n i j → l ≡ cond (leb n j) 0 (getD later j 0 + 1)
+  pub turn-few : (i j l : ℕ) {next slots chain later : List ℕ} {pairs : ℕ}
+      → State m n (i + 1) next slots chain later pairs → Next m n i j → l ≡ cond (leb n j) 0 (getD later j 0 + 1)
       → l ≤ n - suc i
   turn-few i j l {later = later} st nx el =
       let e : l ≡ length (twinsOf m n i) =
@@ -170,21 +167,21 @@ module _ (m : ℕ → List ℕ) (n : ℕ) where
       let f : length (twinsOf m n i) ≤ n - suc i = twins-few m n i in
       omega arith
 
-  pub later-few : (i j : ℕ) {next slots chain hashes later : List ℕ} {pairs : ℕ}
-      → State m n (i + 1) next slots chain hashes later pairs → Next m n i j → n ≤ 2048 → j < n → getD later j 0 ≤ 2048
+  pub later-few : (i j : ℕ) {next slots chain later : List ℕ} {pairs : ℕ}
+      → State m n (i + 1) next slots chain later pairs → Next m n i j → n ≤ 2048 → j < n → getD later j 0 ≤ 2048
   later-few i j {later = later} st nx few q =
       let e : getD later j 0 ≡ length (twinsOf m n j) = st .laters j (omega (arith, nx .after)) q in
       let f : length (twinsOf m n j) ≤ n - suc j = twins-few m n j in
       omega arith
 
-pub moved : {m : ℕ → List ℕ} {n i : ℕ} {next slots chain hashes later : List ℕ} {pairs : ℕ}
-    → State m n i next slots chain hashes later pairs → 0 < i → State m n (i - 1 + 1) next slots chain hashes later pairs
+pub moved : {m : ℕ → List ℕ} {n i : ℕ} {next slots chain later : List ℕ} {pairs : ℕ}
+    → State m n i next slots chain later pairs → 0 < i → State m n (i - 1 + 1) next slots chain later pairs
 moved {i = i} st h = let e : i - 1 + 1 ≡ i = omega arith in rw e st
 
 -- after the loop
-pub finished : (syms starts : List ℕ) (n i : ℕ) (next slots chain hashes later : List ℕ) (pairs : ℕ)
-    → State (partAt syms starts) n i next slots chain hashes later pairs → i ≤ 0
+pub finished : (syms starts : List ℕ) (n i : ℕ) (next slots chain later : List ℕ) (pairs : ℕ)
+    → State (partAt syms starts) n i next slots chain later pairs → i ≤ 0
     → (pairs ≡ length (pairsOf same (partsOf syms starts n))) × Linked (partsOf syms starts n) next × (length next ≡ 2048)
-finished syms starts n i next slots chain hashes later pairs st h =
+finished syms starts n i next slots chain later pairs st h =
     let e : i ≡ 0 = omega arith in
     (rw e at (st .sum) ∙ ap length (pairs-all syms starts n), linked-of syms starts n next (rw e at (st .nexts)), st .next-long)

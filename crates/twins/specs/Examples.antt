@@ -1,5 +1,4 @@
 -- Three parts of one array, and the pairs of equal ones. Assumes nothing.
-use Prim.Native.Nat.{ℕ}
 use mathlib.Core.Path.{_≡_, refl}
 use mathlib.Core.List.{[], _∷_}
 use Rattle.meaning.specs.Meaning.{same}

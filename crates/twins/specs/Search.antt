@@ -1,30 +1,17 @@
--- What the search for equal parts computes and keeps: the hash of a part, the slots and chains of parts with equal
--- slots, and the equal parts after each part.
-use Prim.Native.Nat.{ℕ, suc, _+_, _-_, _*_, _/_, _%_, _≤_, _<_}
+-- What the search for equal parts is lent and keeps: the hash of each part, the slots and chains of parts with equal slots,
+-- and the equal parts after each part.
+use Prim.Native.Nat.{ℕ, suc, _+_, _-_, _%_, _≤_, _<_}
 use mathlib.Core.Path.{_≡_}
-use mathlib.Core.List.{List, [], _∷_}
-use lib.Bits.{bitXor}
+use mathlib.Core.List.{List}
 use lib.ListN.{getD}
+use Rattle.hash.specs.Hash.{hashOf}
 use Rattle.meaning.specs.Meaning.{same}
 use Rattle.meaning.specs.Pairs.{Pair, equalTo, pairsFrom}
 use Rattle.twins.specs.Parts.{values, Next}
 
--- a multiply with carry for each number
-abbrev pub mixOf : ℕ → ℕ → ℕ
-mixOf h x = (h % 4294967296) * 4294957665 + h / 4294967296 + x
-
--- Two numbers at a time. The first has a multiplier of its own: without it, the second number of a step and the first of
--- the next step can cancel.
-abbrev pub mixTwo : ℕ → ℕ → ℕ → ℕ
-mixTwo h x y = (bitXor h (x * 2654435769 + y) % 4294967296) * 4294957665 + bitXor h (x * 2654435769 + y) / 4294967296
-
-unfoldable pub hashFrom : ℕ → List ℕ → ℕ
-hashFrom h [] = h
-hashFrom h (x ∷ []) = mixOf h x
-hashFrom h (x ∷ y ∷ l) = hashFrom (mixTwo h x y) l
-
-abbrev pub hashOf : List ℕ → ℕ
-hashOf l = hashFrom 88172645463325252 l
+-- the hashes of the first n parts, each one place further: at place 0 stands the hash of what comes before the parts
+abbrev pub HashesOf : (ℕ → List ℕ) → ℕ → List ℕ → Type 0
+HashesOf m n hashes = (k : ℕ) → k < n → getD hashes (k + 1) 0 ≡ hashOf (m k)
 
 abbrev pub slotOf : List ℕ → ℕ
 slotOf l = hashOf l % 4096
@@ -36,9 +23,8 @@ pub record Head (s : ℕ → ℕ) (n b i j : ℕ) : Type 0 where
   pub none : (x : ℕ) → i ≤ x → x < j → s x ≡ b → ⊥
   pub hits : j < n → s j ≡ b
 
--- the hashes of the parts from i on, and for each the next in its slot
-pub record Chained (m : ℕ → List ℕ) (n i : ℕ) (hashes chain : List ℕ) : Type 0 where
-  pub hashed : (k : ℕ) → i ≤ k → k < n → getD hashes k 0 ≡ hashOf (m k)
+-- for each part from i on the next in its slot
+pub record Chained (m : ℕ → List ℕ) (n i : ℕ) (chain : List ℕ) : Type 0 where
   pub linked : (k : ℕ) → i ≤ k → k < n → Next (λ x. slotOf (m x)) n k (getD chain k 0)
 
 -- for each part from i on the next that is equal

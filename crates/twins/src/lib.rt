@@ -1,6 +1,7 @@
 // Equal parts of one array of numbers: for each part the next that is equal, the number of pairs, and the pairs written.
-// Each part is hashed once and compared with later parts of its slot only, so that the work grows with the numbers and the
-// pairs where the hashes differ. The results do not depend on the hash.
+// The hash of each part is lent. A part is compared with later parts of its slot only, by the hashes first, and equal hashes
+// are confirmed by comparing the numbers: the work grows with the numbers and the pairs where the hashes differ, and the
+// results do not depend on the hash.
 ghost use mathlib.Core.Path.{_≡_};
 ghost use mathlib.Core.List.{map};
 ghost use mathlib.Core.Bool.{cond};
@@ -9,56 +10,27 @@ ghost use lib.ListN.{length, getD};
 ghost use lib.Seq.{sets};
 ghost use lib.Dec.{leb};
 ghost use Rattle.lists.specs.Lists.{overlay};
+ghost use Rattle.hash.specs.Hash.{hashOf};
 ghost use Rattle.meaning.specs.Meaning.{same};
 ghost use Rattle.meaning.specs.Pairs.{pair, pairsOf, flatPairs};
 ghost use Rattle.twins.specs.Parts.{partAt, partsOf, Cut, Next, Linked};
-ghost use Rattle.twins.specs.Search.{mixOf, mixTwo, hashOf, slotOf, Head, Chained, Nexts, twinsOf};
+ghost use Rattle.twins.specs.Search.{HashesOf, slotOf, Head, Chained, Nexts, twinsOf};
 
-// One step of the hash: a multiply with carry, which never wraps.
-fn mix(h: u64, x: u32) -> u64
-    ensures { λ r. ⌜ r ≡ mixOf h x ⌝ }
-{
-    (h % 4294967296) * 4294957665 + h / 4294967296 + (x as u64)
-}
-
-// The same for two numbers.
-fn mix_two(h: u64, x: u32, y: u32) -> u64
-    ensures { λ r. ⌜ r ≡ mixTwo h x y ⌝ }
-{
-    let w = (x as u64) * 2654435769 + (y as u64);
-    let z = h ^ w;
-    (z % 4294967296) * 4294957665 + z / 4294967296
-}
-
-fn hash_syms(a: &[u32]) -> u64
-    ensures { λ r. ⌜ r ≡ hashOf (now (a .entry)) ⌝ }
-{
-    let mut h: u64 = 88172645463325252;
-    let mut i = 0;
-    while 1 < a.len() - i {
-        h = mix_two(h, a[i], a[i + 1]);
-        i += 2;
-    }
-    if i < a.len() {
-        return mix(h, a[i]);
-    }
-    h
-}
-
-// With no early exit, so that the loop is vectorised.
+// With an early exit, though the loop is then not vectorised: short parts are the common case.
 fn same_syms(a: &[u32], b: &[u32]) -> bool
     ensures { λ r. ⌜ r ≡ same (now (a .entry)) (now (b .entry)) ⌝ }
 {
     if a.len() != b.len() {
         return false;
     }
-    let mut d: u32 = 0;
     let mut i = 0;
     while i < a.len() {
-        d = d | (a[i] ^ b[i]);
+        if a[i] != b[i] {
+            return false;
+        }
         i += 1;
     }
-    d == 0
+    true
 }
 
 // Part k of n.
@@ -75,18 +47,18 @@ fn part<'a>(syms: &'a [u32], starts: &[usize], k: usize, n: usize) -> &'a [u32]
 fn is_twin(
     syms: &[u32],
     starts: &[usize],
-    hashes: &[u64; 2048],
+    hashes: &[u64; 2049],
     i: usize,
     j: usize,
     n: usize,
     h: u64,
 ) -> bool
     requires { ⌜ (n ≤ 2048) × Cut (now syms) (now starts) n × (i < n) × (j < n)
-        × (h ≡ hashOf (partAt (now syms) (now starts) i))
-        × (getD (now hashes) j 0 ≡ hashOf (partAt (now syms) (now starts) j)) ⌝ }
+        × HashesOf (partAt (now syms) (now starts)) n (now hashes)
+        × (h ≡ hashOf (partAt (now syms) (now starts) i)) ⌝ }
     ensures { λ r. ⌜ r ≡ same (partAt (now (syms .entry)) (now (starts .entry)) i) (partAt (now (syms .entry)) (now (starts .entry)) j) ⌝ }
 {
-    if hashes[j] != h {
+    if hashes[j + 1] != h {
         return false;
     }
     same_syms(part(syms, starts, i, n), part(syms, starts, j, n))
@@ -96,15 +68,16 @@ fn is_twin(
 fn find(
     syms: &[u32],
     starts: &[usize],
-    hashes: &[u64; 2048],
-    chain: &[usize; 2048],
+    hashes: &[u64; 2049],
+    chain: &[u16; 2048],
     first: usize,
     i: usize,
     n: usize,
     h: u64,
 ) -> usize
     requires { ⌜ (n ≤ 2048) × Cut (now syms) (now starts) n × (i < n)
-        × Chained (partAt (now syms) (now starts)) n (i + 1) (now hashes) (now chain)
+        × HashesOf (partAt (now syms) (now starts)) n (now hashes)
+        × Chained (partAt (now syms) (now starts)) n (i + 1) (now chain)
         × (h ≡ hashOf (partAt (now syms) (now starts) i))
         × Head (λ x. slotOf (partAt (now syms) (now starts) x)) n (h % 4096) (i + 1) first ⌝ }
     ensures { λ r. ⌜ Next (partAt (now (syms .entry)) (now (starts .entry))) n i r ⌝ }
@@ -114,48 +87,56 @@ fn find(
         if is_twin(syms, starts, hashes, i, j, n, h) {
             return j;
         }
-        j = chain[j];
+        j = chain[j] as usize;
     }
     j
 }
 
 // How many equal parts come after one whose next is j.
-fn after(later: &[usize; 2048], j: usize, n: usize) -> usize
+fn after(later: &[u16; 2048], j: usize, n: usize) -> usize
     requires { ⌜ (n ≤ 2048) × (j < n → getD (now later) j 0 ≤ 2048) ⌝ }
     ensures { λ r. ⌜ r ≡ cond (leb n j) 0 (getD (now (later .entry)) j 0 + 1) ⌝ }
 {
     if n <= j {
         return 0;
     }
-    later[j] + 1
+    later[j] as usize + 1
 }
 
 // The next equal part of each of n parts, and the number of pairs. From the last part to the first, so that what comes
 // after a part is known when the part is reached.
-pub fn link(syms: &[u32], starts: &[usize], n: usize, next: &mut [usize; 2048]) -> usize
-    requires { ⌜ (n ≤ 2048) × Cut (now syms) (now starts) n × (length (now next) ≡ 2048) ⌝ }
+pub fn link(
+    syms: &[u32],
+    starts: &[usize],
+    hashes: &[u64; 2049],
+    n: usize,
+    next: &mut [usize; 2048],
+) -> usize
+    requires { ⌜ (n ≤ 2048) × Cut (now syms) (now starts) n × (length (now next) ≡ 2048)
+        × HashesOf (partAt (now syms) (now starts)) n (now hashes) ⌝ }
     ensures { λ r. ⌜ (r ≡ length (pairsOf same (partsOf (now (syms .entry)) (now (starts .entry)) n)))
         × Linked (partsOf (now (syms .entry)) (now (starts .entry)) n) (now (next .exit))
         × (length (now (next .exit)) ≡ 2048) ⌝ }
 {
-    let mut slots = [n; 4096];
-    let mut chain = [0usize; 2048];
-    let mut hashes = [0u64; 2048];
-    let mut later = [0usize; 2048];
+    // Places and counts are at most 2048: as u16 there are fewer bytes to clear.
+    let mut slots = [n as u16; 4096];
+    // Both arrays are written before they are read. A first value whose bytes differ is stored by vector instructions, and
+    // not by a call of memset.
+    let mut chain = [1u16; 2048];
+    let mut later = [1u16; 2048];
     let mut pairs: usize = 0;
     let mut i = n;
     while 0 < i {
         i -= 1;
-        let h = hash_syms(part(syms, starts, i, n));
+        let h = hashes[i + 1];
         let s = (h % 4096) as usize;
-        let first = slots[s];
-        let j = find(syms, starts, &hashes, &chain, first, i, n, h);
+        let first = slots[s] as usize;
+        let j = find(syms, starts, hashes, &chain, first, i, n, h);
         next[i] = j;
-        hashes[i] = h;
-        chain[i] = first;
-        slots[s] = i;
+        chain[i] = first as u16;
+        slots[s] = i as u16;
         let l = after(&later, j, n);
-        later[i] = l;
+        later[i] = l as u16;
         pairs += l;
     }
     pairs

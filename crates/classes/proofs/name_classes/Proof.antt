@@ -15,7 +15,7 @@ abbrev μ-loop : tie.MeasureT-loop
 μ-loop doc names count classes₀ hashes₀ r₀ classes hashes r = count - r
 
 loop-holds : tie.Need-loop-holds Inv-loop μ-loop
-loop-holds c = made-none _ _ _ _ _ (length-replicate {A = ℕ} 1024 0) (c .before .before .pre .3)
+loop-holds c = made-none _ _ _ _ _ (length-replicate {A = ℕ} 1024 1) (c .before .before .pre .3)
 
 mul-cell : tie.Need-mul-cell Inv-loop μ-loop
 mul-cell c = search needs

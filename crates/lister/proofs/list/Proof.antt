@@ -1,11 +1,10 @@
--- `lister::list` meets its contract. Assumes nothing.
-use mathlib.Core.Path.{refl, sym}
-use Rattle.lister.proofs.Listed.{drawable, refused, too-small, written, numbers-fit}
+-- `lister::list` meets its contract: each of the three arrays has the room that its test asks for. Assumes nothing.
+use Rattle.lister.proofs.Listed.{filled, refused, listed}
 use native.Mathlib.Omega.{arith}
-use Rattle.lists.specs.Lists.{Bytes}
-use Rattle.filled.proofs.Filled.{read-short, nameable}
+use mathlib.Core.Path.{sym}
 use Prim.Native.Nat.{ℕ}
 use lib.ListN.{length-replicate}
+use Rattle.filled.proofs.Filled.{read-short}
 use borrow.Author.Needs.{needs}
 use Rattle.lister.proofs.list.Statement.{statement}
 use Rattle.lister.proofs.list.Tie as tie
@@ -28,59 +27,101 @@ same-length-3 c = search needs
 returns : tie.Need-returns
 returns c = refused (c .before .before .before .before .before .before .before .before .before .read .ensures) (c .before .if1 .taken) (c .refused .ensures)
 
-name-classes-requires : tie.Need-name-classes-requires
-name-classes-requires c κs = let a = c .before .before .before .before .before .before .before .before .before .before .before .before .before .before .before .before .before .before .before .args in let h = c .before .before .before .before .before .before .before .before .before .before .read .ensures in let n = nameable (a .doc .now) h (read-short (a .doc .now) h (c .before .before .if1 .left)) in (n .0, n .1, n .2, length-replicate {A = ℕ} 1024 0, n .3)
+mul-need : tie.Need-mul-need
+mul-need c =
+    let d = c .before .before .before .before .before .before .before .before .before .before .before .before .before .before .before .before .before .args .doc .now in
+    let h = c .before .before .before .before .before .before .before .before .read .ensures in
+    let f = filled d h (read-short d h (c .if1 .left)) in
+    omega (arith, f .short, f .efew)
 
-table-requires : tie.Need-table-requires
-table-requires c κs = search needs
+mul-need-2 : tie.Need-mul-need-2
+mul-need-2 c =
+    let d = c .before .before .before .before .before .before .before .before .before .before .before .before .before .before .before .before .before .before .args .doc .now in
+    let h = c .before .before .before .before .before .before .before .before .before .read .ensures in
+    let f = filled d h (read-short d h (c .before .if1 .left)) in
+    omega (arith, f .short, f .efew)
 
-render-requires : tie.Need-render-requires
-render-requires c κs = let a = c .before .before .before .before .before .before .before .before .before .before .before .before .before .before .before .before .before .before .before .before .before .before .before .before .before .before .before .before .args in let h = c .before .before .before .before .before .before .before .before .before .before .before .before .before .before .before .before .before .before .before .read .ensures in let n = c .before .before .before .before .before .before .before .before .name-classes .ensures in (c .before .before .before .before .before .before .before .table .ensures, drawable (a .doc .now) h (read-short (a .doc .now) h (c .before .before .before .before .before .before .before .before .before .before .before .if1 .left)) (n .1) (n .0), length-replicate {A = ℕ} 307200 0, length-replicate {A = ℕ} 2049 0)
+add-need : tie.Need-add-need
+add-need c =
+    let d = c .before .before .before .before .before .before .before .before .before .before .before .before .before .before .before .before .before .before .args .doc .now in
+    let h = c .before .before .before .before .before .before .before .before .before .read .ensures in
+    let f = filled d h (read-short d h (c .before .if1 .left)) in
+    omega (arith, f .short, f .efew)
 
-slice-aggregate-link : tie.Need-slice-aggregate-link
-slice-aggregate-link c = sym (c .before .render .ensures .long)
+slice-aggregate-list-tables : tie.Need-slice-aggregate-list-tables
+slice-aggregate-list-tables c = sym (length-replicate {A = ℕ} 40960 1)
 
-slice-aggregate-link-2 : tie.Need-slice-aggregate-link-2
-slice-aggregate-link-2 c = sym (c .before .before .render .ensures .starts-long)
-
-link-requires : tie.Need-link-requires
-link-requires c κs = let g = c .before .before .before .render .ensures in (g .few, g .cut, length-replicate {A = ℕ} 2048 0)
+list-tables-requires : tie.Need-list-tables-requires
+list-tables-requires c κs =
+    let d = c .before .before .before .before .before .before .before .before .before .before .before .before .before .before .before .before .before .before .before .before .before .before .before .before .args .doc .now in
+    let h = c .before .before .before .before .before .before .before .before .before .before .before .before .before .before .before .read .ensures in
+    let f = filled d h (read-short d h (c .before .before .before .before .before .before .before .if1 .left)) in
+    (f, omega (arith, c .before .before .before .before .before .if2 .taken, length-replicate {A = ℕ} 40960 1))
 
 same-length-4 : tie.Need-same-length-4
-same-length-4 c = c .before .before .before .before .before .before .before .before .before .before .before .before .before .before .before .before .before .before .before .before .before .before .before .before .before .read .kept .1 .0
+same-length-4 c = c .before .before .before .before .before .before .before .before .before .before .before .before .before .before .before .before .before .before .before .read .kept .1 .0
 
 same-length-5 : tie.Need-same-length-5
-same-length-5 c = c .before .before .before .before .before .before .before .before .before .before .before .before .before .before .before .before .before .before .before .before .before .before .before .before .before .read .kept .1 .1 .0
+same-length-5 c = c .before .before .before .before .before .before .before .before .before .before .before .before .before .before .before .before .before .before .before .read .kept .1 .1 .0
 
 same-length-6 : tie.Need-same-length-6
-same-length-6 c = c .before .before .before .before .before .before .before .before .before .before .before .before .before .before .before .before .before .before .before .before .before .before .before .before .before .read .kept .1 .1 .1 .0
-
-returns-2 : tie.Need-returns-2
-returns-2 c = let a = c .before .before .before .before .before .before .before .before .before .before .before .before .before .before .before .before .before .before .before .before .before .before .before .before .before .before .before .before .before .before .before .before .before .before .args in let b : Bytes (a .doc .now) = record { each = λ k. omega (arith, c .before .before .before .before .before .before .before .before .before .before .before .before .before .before .before .before .before .before .before .before .before .before .before .before .before .before .before .before .before .before .before .before .before .shared-slice-known .given k) } in let h = c .before .before .before .before .before .before .before .before .before .before .before .before .before .before .before .before .before .before .before .before .before .before .before .before .before .read .ensures in let ok = c .before .before .before .before .before .before .before .before .before .before .before .before .before .before .before .before .before .if1 .left in let n = c .before .before .before .before .before .before .before .before .before .before .before .before .before .before .name-classes .ensures in too-small h ok b (drawable (a .doc .now) h (read-short (a .doc .now) h ok) (n .1) (n .0)) (c .before .before .before .before .before .render .ensures) (c .before .link .ensures .0) (c .if2 .taken) refl
-
-slice-aggregate-write-pairs : tie.Need-slice-aggregate-write-pairs
-slice-aggregate-write-pairs c = sym (c .before .before .before .before .before .before .render .ensures .long)
-
-slice-aggregate-write-pairs-2 : tie.Need-slice-aggregate-write-pairs-2
-slice-aggregate-write-pairs-2 c = sym (c .before .before .before .before .before .before .before .render .ensures .starts-long)
-
-write-pairs-requires : tie.Need-write-pairs-requires
-write-pairs-requires c κs = let a = c .before .before .before .before .before .before .before .before .before .before .before .before .before .before .before .before .before .before .before .before .before .before .before .before .before .before .before .before .before .before .before .before .before .before .before .before .before .before .args in let g = c .before .before .before .before .before .before .before .before .before .render .ensures in let l = c .before .before .before .before .before .link .ensures in (g .few, l .2, l .1, numbers-fit _ _ _ (l .0) (c .before .before .before .before .if2 .left))
+same-length-6 c = c .before .before .before .before .before .before .before .before .before .before .before .before .before .before .before .before .before .before .before .read .kept .1 .1 .1 .0
 
 same-length-7 : tie.Need-same-length-7
-same-length-7 c = c .before .before .before .before .before .before .before .before .before .before .before .before .before .before .before .before .before .before .before .before .before .before .before .before .before .before .before .before .before .before .before .before .read .kept .1 .0
+same-length-7 c = search needs
+
+returns-2 : tie.Need-returns-2
+returns-2 c = listed (c .before .before .before .before .before .before .before .before .before .before .before .before .before .before .before .before .before .before .before .before .before .before .before .before .before .before .before .before .args .doc .now) (c .before .before .before .before .before .before .before .before .before .before .before .before .before .before .before .before .before .before .before .read .ensures) (c .before .before .before .before .before .before .before .before .before .before .before .if1 .left) (c .before .before .before .list-tables .ensures)
+
+slice-aggregate-list-tables-2 : tie.Need-slice-aggregate-list-tables-2
+slice-aggregate-list-tables-2 c = sym (length-replicate {A = ℕ} 65536 1)
+
+list-tables-requires-2 : tie.Need-list-tables-requires-2
+list-tables-requires-2 c κs =
+    let d = c .before .before .before .before .before .before .before .before .before .before .before .before .before .before .before .before .before .before .before .before .before .before .before .before .before .args .doc .now in
+    let h = c .before .before .before .before .before .before .before .before .before .before .before .before .before .before .before .before .read .ensures in
+    let f = filled d h (read-short d h (c .before .before .before .before .before .before .before .before .if1 .left)) in
+    (f, omega (arith, c .before .before .before .before .before .if3 .taken, length-replicate {A = ℕ} 65536 1))
 
 same-length-8 : tie.Need-same-length-8
-same-length-8 c = c .before .before .before .before .before .before .before .before .before .before .before .before .before .before .before .before .before .before .before .before .before .before .before .before .before .before .before .before .before .before .before .before .read .kept .1 .1 .0
+same-length-8 c = c .before .before .before .before .before .before .before .before .before .before .before .before .before .before .before .before .before .before .before .before .read .kept .1 .0
 
 same-length-9 : tie.Need-same-length-9
-same-length-9 c = c .before .before .before .before .before .before .before .before .before .before .before .before .before .before .before .before .before .before .before .before .before .before .before .before .before .before .before .before .before .before .before .before .read .kept .1 .1 .1 .0
+same-length-9 c = c .before .before .before .before .before .before .before .before .before .before .before .before .before .before .before .before .before .before .before .before .read .kept .1 .1 .0
 
 same-length-10 : tie.Need-same-length-10
-same-length-10 c = search needs
+same-length-10 c = c .before .before .before .before .before .before .before .before .before .before .before .before .before .before .before .before .before .before .before .before .read .kept .1 .1 .1 .0
+
+same-length-11 : tie.Need-same-length-11
+same-length-11 c = search needs
 
 returns-3 : tie.Need-returns-3
-returns-3 c = let a = c .before .before .before .before .before .before .before .before .before .before .before .before .before .before .before .before .before .before .before .before .before .before .before .before .before .before .before .before .before .before .before .before .before .before .before .before .before .before .before .before .before .args in let b : Bytes (a .doc .now) = record { each = λ k. omega (arith, c .before .before .before .before .before .before .before .before .before .before .before .before .before .before .before .before .before .before .before .before .before .before .before .before .before .before .before .before .before .before .before .before .before .before .before .before .before .before .before .before .shared-slice-known .given k) } in let h = c .before .before .before .before .before .before .before .before .before .before .before .before .before .before .before .before .before .before .before .before .before .before .before .before .before .before .before .before .before .before .before .before .read .ensures in let ok = c .before .before .before .before .before .before .before .before .before .before .before .before .before .before .before .before .before .before .before .before .before .before .before .before .if1 .left in let n = c .before .before .before .before .before .before .before .before .before .before .before .before .before .before .before .before .before .before .before .before .before .name-classes .ensures in written h ok b (drawable (a .doc .now) h (read-short (a .doc .now) h ok) (n .1) (n .0)) (c .before .before .before .before .before .before .before .before .before .before .before .before .render .ensures) (c .before .before .before .before .before .before .before .before .link .ensures .0) (c .before .before .before .before .before .before .before .if2 .left) (c .before .before .write-pairs .ensures) refl
+returns-3 c = listed (c .before .before .before .before .before .before .before .before .before .before .before .before .before .before .before .before .before .before .before .before .before .before .before .before .before .before .before .before .before .args .doc .now) (c .before .before .before .before .before .before .before .before .before .before .before .before .before .before .before .before .before .before .before .before .read .ensures) (c .before .before .before .before .before .before .before .before .before .before .before .before .if1 .left) (c .before .before .before .list-tables2 .ensures)
+
+slice-aggregate-list-tables-3 : tie.Need-slice-aggregate-list-tables-3
+slice-aggregate-list-tables-3 c = sym (length-replicate {A = ℕ} 335872 1)
+
+list-tables-requires-3 : tie.Need-list-tables-requires-3
+list-tables-requires-3 c κs =
+    let d = c .before .before .before .before .before .before .before .before .before .before .before .before .before .before .before .before .before .before .before .before .before .before .before .before .before .args .doc .now in
+    let h = c .before .before .before .before .before .before .before .before .before .before .before .before .before .before .before .before .read .ensures in
+    let f = filled d h (read-short d h (c .before .before .before .before .before .before .before .before .if1 .left)) in
+    (f, omega (arith, f .short, f .efew, length-replicate {A = ℕ} 335872 1))
+
+same-length-12 : tie.Need-same-length-12
+same-length-12 c = c .before .before .before .before .before .before .before .before .before .before .before .before .before .before .before .before .before .before .before .before .read .kept .1 .0
+
+same-length-13 : tie.Need-same-length-13
+same-length-13 c = c .before .before .before .before .before .before .before .before .before .before .before .before .before .before .before .before .before .before .before .before .read .kept .1 .1 .0
+
+same-length-14 : tie.Need-same-length-14
+same-length-14 c = c .before .before .before .before .before .before .before .before .before .before .before .before .before .before .before .before .before .before .before .before .read .kept .1 .1 .1 .0
+
+same-length-15 : tie.Need-same-length-15
+same-length-15 c = search needs
+
+returns-4 : tie.Need-returns-4
+returns-4 c = listed (c .before .before .before .before .before .before .before .before .before .before .before .before .before .before .before .before .before .before .before .before .before .before .before .before .before .before .before .before .before .args .doc .now) (c .before .before .before .before .before .before .before .before .before .before .before .before .before .before .before .before .before .before .before .before .read .ensures) (c .before .before .before .before .before .before .before .before .before .before .before .before .if1 .left) (c .before .before .before .list-tables3 .ensures)
 
 pub list-spec : {M : Type 1} → statement M
 list-spec =
@@ -92,21 +133,27 @@ list-spec =
     same-length-2
     same-length-3
     returns
-    name-classes-requires
-    table-requires
-    render-requires
-    slice-aggregate-link
-    slice-aggregate-link-2
-    link-requires
+    mul-need
+    mul-need-2
+    add-need
+    slice-aggregate-list-tables
+    list-tables-requires
     same-length-4
     same-length-5
     same-length-6
-    returns-2
-    slice-aggregate-write-pairs
-    slice-aggregate-write-pairs-2
-    write-pairs-requires
     same-length-7
+    returns-2
+    slice-aggregate-list-tables-2
+    list-tables-requires-2
     same-length-8
     same-length-9
     same-length-10
-    returns-3)
+    same-length-11
+    returns-3
+    slice-aggregate-list-tables-3
+    list-tables-requires-3
+    same-length-12
+    same-length-13
+    same-length-14
+    same-length-15
+    returns-4)

@@ -1,22 +1,96 @@
--- `render::put_attribute` meets its contract. Assumes nothing.
+-- `render::put_attribute` meets its contract: one way outside of a record, one for an attribute that declares a prefix, one for any other. Assumes nothing.
+use Rattle.render.proofs.Rows.{row-as, row-hashed, out-row, out-in, declared-number, declared-two, declared-bare, counted-one, counted-mark, close-few}
+use Rattle.render.proofs.Going.{hashed-then, put-long}
+use mathlib.Core.Path.{refl, ap, _∙_}
+use Rattle.render.specs.Effects.{attributed}
+use Rattle.render.specs.declared.Progress.{Progress}
+use Rattle.render.specs.Codes.{closeBy}
 use native.Mathlib.Omega.{arith}
-use mathlib.Core.Path.{_∙_}
-use Rattle.render.proofs.Going.{put-as, put-put, put-long}
-use Rattle.render.proofs.Rows.{close-few, attribute-marked, attribute-bare}
+use borrow.Author.Needs.{needs}
 use Rattle.render.proofs.put_attribute.Statement.{statement}
 use Rattle.render.proofs.put_attribute.Tie as tie
 
-put-close-requires : tie.Need-put-close-requires
-put-close-requires c κs = (c .before .before .pre .1, omega (arith, c .before .before .pre .2))
+sub-mark : tie.Need-sub-mark
+sub-mark c = search needs
 
-put-named-requires : tie.Need-put-named-requires
-put-named-requires c κs = (c .before .before .before .before .before .pre .0, omega arith, put-long (c .before .before .put-close .ensures) ∙ c .before .before .before .before .before .pre .1, omega (arith, c .before .before .put-close .ensures .to-is, close-few (c .before .before .before .before .before .args .q), c .before .before .before .before .before .pre .2))
+mul-mark : tie.Need-mul-mark
+mul-mark c = search needs
+
+element-copy-out-mark : tie.Need-element-copy-out-mark
+element-copy-out-mark c = search needs
+
+counts-requires : tie.Need-counts-requires
+counts-requires c κs = search needs
+
+with-attribute-requires : tie.Need-with-attribute-requires
+with-attribute-requires c κs = search needs
 
 returns : tie.Need-returns
-returns c = put-as (attribute-marked (c .before .before .before .before .before .before .args .q) (c .before .before .before .before .before .before .args .after) _ (c .before .before .if1 .taken)) (put-put (c .before .before .before .put-close .ensures) (c .put-named .ensures))
+returns c = row-as refl (declared-number (c .before .before .before .before .before .before .args .marks .now) (c .before .before .before .before .before .before .args .row) _ refl _ (c .before .counts .ensures)) refl (out-row _ _ _ _ _ _ (c .before .before .if1 .taken) (c .with-attribute .ensures))
+
+cursor-of-requires : tie.Need-cursor-of-requires
+cursor-of-requires c κs = search needs
+
+put-close-requires : tie.Need-put-close-requires
+put-close-requires c κs = rw (c .cursor-of .ensures) (omega (arith, c .before .before .before .before .before .before .pre .2))
+
+moved-requires : tie.Need-moved-requires
+moved-requires c κs = search needs
+
+with-attribute-requires-2 : tie.Need-with-attribute-requires-2
+with-attribute-requires-2 c κs = search needs
+
+same-length : tie.Need-same-length
+same-length c = search needs
 
 returns-2 : tie.Need-returns-2
-returns-2 c = put-as (attribute-bare (c .before .before .before .before .args .q) (c .before .before .before .before .args .after) _ (c .if1 .left)) (c .before .put-close .ensures)
+returns-2 c =
+    row-as (out-in _ (c .before .before .before .before .before .before .before .before .if1 .left) (declared-bare (c .before .before .before .before .before .before .before .before .before .before .before .before .args .marks .now) (c .before .before .before .before .before .before .before .before .before .before .before .before .args .row) _ refl (closeBy (c .before .before .before .before .before .before .before .before .before .before .before .before .args .p .attribute)) (c .before .before .if2 .taken))) (declared-two (c .before .before .before .before .before .before .before .before .before .before .before .before .args .marks .now) (c .before .before .before .before .before .before .before .before .before .before .before .before .args .row) _ refl (c .before .before .if2 .taken)) refl
+    (row-hashed _ _ (c .before .before .before .before .before .before .cursor-of .ensures) (c .before .before .before .before .before .put-close .ensures) _ (c .with-attribute2 .ensures ∙ ap (λ (r : Progress). attributed r 2) (c .before .moved .ensures)))
+
+add-put-one : tie.Need-add-put-one
+add-put-one c = omega (arith, c .before .if2 .left)
+
+put-one-requires : tie.Need-put-one-requires
+put-one-requires c κs =
+    let i = rw (c .before .before .before .before .before .cursor-of .ensures) at (c .before .before .before .before .put-close .ensures) in
+    let f = close-few (c .before .before .before .before .before .before .before .before .before .before .before .args .p .attribute) in
+    let l = put-long (i .put) in
+    omega (arith, i .put .to-is, c .before .before .before .before .before .before .before .before .before .before .before .pre .2)
+
+moved-requires-2 : tie.Need-moved-requires-2
+moved-requires-2 c κs = search needs
+
+with-attribute-requires-3 : tie.Need-with-attribute-requires-3
+with-attribute-requires-3 c κs = search needs
+
+same-length-2 : tie.Need-same-length-2
+same-length-2 c = search needs
+
+returns-3 : tie.Need-returns-3
+returns-3 c =
+    row-as (out-in _ (c .before .before .before .before .before .before .before .before .before .before .before .before .if1 .left) (counted-mark (c .before .before .before .before .before .before .before .before .before .before .before .before .before .before .before .before .args .marks .now) (c .before .before .before .before .before .before .before .before .before .before .before .before .before .before .before .before .args .row) _ refl (closeBy (c .before .before .before .before .before .before .before .before .before .before .before .before .before .before .before .before .args .p .attribute)) (c .before .before .before .before .before .before .if2 .left))) (counted-one (c .before .before .before .before .before .before .before .before .before .before .before .before .before .before .before .before .args .marks .now) (c .before .before .before .before .before .before .before .before .before .before .before .before .before .before .before .before .args .row) _ refl (c .before .before .before .before .before .before .if2 .left)) refl
+    (row-hashed _ _ (c .before .before .before .before .before .before .before .before .before .before .cursor-of .ensures) (hashed-then (c .before .before .before .before .before .before .before .before .before .put-close .ensures) (c .before .before .before .before .put-one .ensures)) _ (c .with-attribute3 .ensures ∙ ap (λ (r : Progress). attributed r 1) (c .before .moved2 .ensures)))
 
 pub put-attribute-spec : {M : Type 1} → statement M
-put-attribute-spec = tie.close (tie.spec put-close-requires put-named-requires returns returns-2)
+put-attribute-spec =
+    tie.close
+    (tie.spec
+    sub-mark
+    mul-mark
+    element-copy-out-mark
+    counts-requires
+    with-attribute-requires
+    returns
+    cursor-of-requires
+    put-close-requires
+    moved-requires
+    with-attribute-requires-2
+    same-length
+    returns-2
+    add-put-one
+    put-one-requires
+    moved-requires-2
+    with-attribute-requires-3
+    same-length-2
+    returns-3)

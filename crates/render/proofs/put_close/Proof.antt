@@ -1,17 +1,21 @@
 -- `render::put_close` meets its contract. Assumes nothing.
-use Rattle.render.proofs.Going.{put-as, put-none}
+use Rattle.render.proofs.Going.{hashed-as, hashed-none}
 use Rattle.render.proofs.Rows.{close-one, close-none}
+use borrow.Author.Needs.{needs}
 use Rattle.render.proofs.put_close.Statement.{statement}
 use Rattle.render.proofs.put_close.Tie as tie
 
 put-one-requires : tie.Need-put-one-requires
-put-one-requires c κs = c .before .before .pre
+put-one-requires c κs = search needs
+
+same-length : tie.Need-same-length
+same-length c = search needs
 
 returns : tie.Need-returns
-returns c = put-as (close-one _ (c .before .before .if1 .taken)) (c .put-one .ensures)
+returns c = hashed-as (close-one _ (c .before .before .before .before .if1 .taken)) (c .before .before .put-one .ensures)
 
 returns-2 : tie.Need-returns-2
-returns-2 c = put-as (close-none _ (c .if1 .left)) (put-none _ _)
+returns-2 c = hashed-as (close-none _ (c .if1 .left)) (hashed-none _ _)
 
 pub put-close-spec : {M : Type 1} → statement M
-put-close-spec = tie.close (tie.spec put-one-requires returns returns-2)
+put-close-spec = tie.close (tie.spec put-one-requires same-length returns returns-2)

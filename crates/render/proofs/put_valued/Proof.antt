@@ -1,31 +1,41 @@
 -- `render::put_valued` meets its contract. Assumes nothing.
-use borrow.Author.Needs.{needs}
+use Rattle.render.proofs.Rows.{is-value, room-value, span, part-few, counted-qname, counted-zero, counted-value}
+use Rattle.render.proofs.Going.{hashed-as, hashed-none}
+use mathlib.Core.Path.{refl}
 use native.Mathlib.Omega.{arith}
-use Rattle.render.proofs.Going.{put-as, put-none}
-use Rattle.render.proofs.Rows.{is-value, size-value, part-few, value-skipped, value-qname, value-zero, value-high, value-low}
+use borrow.Author.Needs.{needs}
 use Rattle.render.proofs.put_valued.Statement.{statement}
 use Rattle.render.proofs.put_valued.Tie as tie
 
-returns : tie.Need-returns
-returns c = put-as (value-skipped _ _ _ _ _ _ _ (c .if1 .taken)) (put-none _ _)
+sub-put-one : tie.Need-sub-put-one
+sub-put-one c = (let q = c .before .before .before .before .pre .1 .qname (c .before .if1 .taken) in omega (arith, q .0, q .1))
 
-put-named-requires : tie.Need-put-named-requires
-put-named-requires c κs = (c .before .before .before .before .before .pre .2 .qname (c .before .if2 .taken), omega arith, c .before .before .before .before .before .pre .3, omega (arith, c .before .before .before .before .before .pre .4))
+mul-put-one : tie.Need-mul-put-one
+mul-put-one c = (let q = c .before .before .before .before .pre .1 .qname (c .before .if1 .taken) in omega (arith, q .0, q .1))
+
+element-copy-out-put-one : tie.Need-element-copy-out-put-one
+element-copy-out-put-one c = (let q = c .before .before .before .before .pre .1 .qname (c .before .if1 .taken) in omega (arith, q .0, q .1))
+
+add-put-one : tie.Need-add-put-one
+add-put-one c = search needs
+
+put-one-requires : tie.Need-put-one-requires
+put-one-requires c κs = omega (arith, c .before .before .before .before .before .pre .3)
+
+same-length : tie.Need-same-length
+same-length c = search needs
+
+returns : tie.Need-returns
+returns c = hashed-as (counted-qname (c .before .before .before .before .before .before .before .before .args .doc .now) (c .before .before .before .before .before .before .before .before .args .marks .now) (c .before .before .before .before .before .before .before .before .args .token) (c .before .before .before .before .before .before .before .before .args .a) (c .before .before .before .before .before .before .before .before .args .b) _ refl (c .before .before .before .before .before .if1 .taken)) (c .before .before .put-one .ensures)
 
 returns-2 : tie.Need-returns-2
-returns-2 c = put-as (value-qname _ _ _ _ _ _ _ (c .before .before .before .if1 .left) (c .before .before .if2 .taken)) (c .put-named .ensures)
-
-returns-3 : tie.Need-returns-3
-returns-3 c = put-as (value-zero _ _ _ _ _ _ _ (c .before .before .if1 .left) (c .before .if2 .left) (c .if3 .taken)) (put-none _ _)
-
-returns-4 : tie.Need-returns-4
-returns-4 c = put-as (value-high _ _ _ _ _ _ _ (c .before .before .before .if1 .left) (c .before .before .if2 .left) (c .before .if3 .left) (c .if4 .taken)) (put-none _ _)
+returns-2 c = hashed-as (counted-zero (c .before .before .before .before .args .doc .now) (c .before .before .before .before .args .marks .now) (c .before .before .before .before .args .token) (c .before .before .before .before .args .a) (c .before .before .before .before .args .b) (c .if2 .taken)) (hashed-none _ _)
 
 add-end : tie.Need-add-end
-add-end c = omega (arith, (c .before .before .before .before .before .before .pre .2 .value (is-value _ (c .before .if3 .left) (c .if4 .left)) (c .before .before .if2 .left)))
+add-end c = let v = (c .before .before .before .before .pre .1 .value (is-value _ (c .if2 .left) (c .before .before .before .before .pre .2)) (c .before .if1 .left)) in omega (arith, v .0)
 
 cast-put-payload : tie.Need-cast-put-payload
-cast-put-payload c = search needs
+cast-put-payload c = omega (arith, c .before .before .before .before .pre .2)
 
 sub-put-payload : tie.Need-sub-put-payload
 sub-put-payload c = search needs
@@ -34,27 +44,38 @@ part-put-payload-start : tie.Need-part-put-payload-start
 part-put-payload-start c = search needs
 
 part-put-payload-end : tie.Need-part-put-payload-end
-part-put-payload-end c = omega (arith, (c .before .before .before .before .before .before .pre .2 .value (is-value _ (c .before .if3 .left) (c .if4 .left)) (c .before .before .if2 .left)))
+part-put-payload-end c = let v = (c .before .before .before .before .pre .1 .value (is-value _ (c .if2 .left) (c .before .before .before .before .pre .2)) (c .before .if1 .left)) in omega (arith, v .0)
 
 put-payload-requires : tie.Need-put-payload-requires
-put-payload-requires c κs = (c .before .before .before .before .before .before .before .before .pre .0, c .before .before .before .before .before .before .before .before .pre .1, c .before .before .before .before .before .before .before .before .pre .3, omega (arith, c .before .before .before .before .before .before .before .before .pre .4, size-value (c .before .before .before .before .before .before .before .before .args .token) (c .before .before .before .before .before .before .before .before .args .b) (c .before .before .before .if3 .left) (c .before .before .if4 .left), part-few (c .before .before .before .before .before .before .before .before .args .doc .now) (c .before .before .before .before .before .before .before .before .args .a) (c .before .before .before .before .before .before .before .before .args .b)))
+put-payload-requires c κs =
+    let s = c .before .before .before .before .before .before in
+    let v = (c .before .before .before .before .before .before .pre .1 .value (is-value _ (c .before .before .if2 .left) (c .before .before .before .before .before .before .pre .2)) (c .before .before .before .if1 .left)) in
+    let f = part-few (s .args .doc .now) (s .args .a) (s .args .b) in
+    (s .pre .0, rw span (v .1), omega (arith, f, v .2), omega (arith, f, s .pre .3, room-value (s .args .token) (s .args .b) (c .before .before .if2 .left) (s .pre .2)))
 
-returns-5 : tie.Need-returns-5
-returns-5 c = put-as (value-low _ _ _ _ _ _ _ (c .before .before .before .before .before .before .if1 .left) (c .before .before .before .before .before .if2 .left) (c .before .before .before .before .if3 .left) (c .before .before .before .if4 .left)) (c .put-payload .ensures)
+same-length-2 : tie.Need-same-length-2
+same-length-2 c = search needs
+
+returns-3 : tie.Need-returns-3
+returns-3 c = hashed-as (counted-value (c .before .before .before .before .before .before .before .before .before .args .doc .now) (c .before .before .before .before .before .before .before .before .before .args .marks .now) (c .before .before .before .before .before .before .before .before .before .args .token) (c .before .before .before .before .before .before .before .before .before .args .a) (c .before .before .before .before .before .before .before .before .before .args .b) (c .before .before .before .before .before .before .if1 .left) (c .before .before .before .before .before .if2 .left) (c .before .before .before .before .before .before .before .before .before .pre .2)) (c .before .before .put-payload .ensures)
 
 pub put-valued-spec : {M : Type 1} → statement M
 put-valued-spec =
     tie.close
     (tie.spec
+    sub-put-one
+    mul-put-one
+    element-copy-out-put-one
+    add-put-one
+    put-one-requires
+    same-length
     returns
-    put-named-requires
     returns-2
-    returns-3
-    returns-4
     add-end
     cast-put-payload
     sub-put-payload
     part-put-payload-start
     part-put-payload-end
     put-payload-requires
-    returns-5)
+    same-length-2
+    returns-3)

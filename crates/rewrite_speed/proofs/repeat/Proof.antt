@@ -33,6 +33,15 @@ rewrite-requires c κs = search needs
 wrapping-add-u64-requires : tie.Need-wrapping-add-u64-requires Inv-loop μ-loop
 wrapping-add-u64-requires c κs = search needs
 
+array-read-wide : tie.Need-array-read-wide Inv-loop μ-loop
+array-read-wide c = search needs
+
+wide-requires : tie.Need-wide-requires Inv-loop μ-loop
+wide-requires c κs = search needs
+
+wrapping-add-u64-requires-2 : tie.Need-wrapping-add-u64-requires-2 Inv-loop μ-loop
+wrapping-add-u64-requires-2 c κs = search needs
+
 add-i : tie.Need-add-i Inv-loop μ-loop
 add-i c = search needs
 
@@ -58,6 +67,9 @@ repeat-spec =
     slice-aggregate-rewrite-4
     rewrite-requires
     wrapping-add-u64-requires
+    array-read-wide
+    wide-requires
+    wrapping-add-u64-requires-2
     add-i
     loop-less
     loop-again

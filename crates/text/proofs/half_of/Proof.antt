@@ -1,36 +1,21 @@
--- `text::half_of` meets its contract: `half` is half of 256 ^ i. Assumes nothing.
-use borrow.Author.Needs.{needs}
-use Prim.Native.Nat.{_+_, _-_, _^_, _≤_}
-use mathlib.Core.Path.{_≡_, refl}
-use Rattle.text.proofs.Plans.{half-next, half-fits}
-use native.Mathlib.Omega.{arith}
+-- `text::half_of` meets its contract: each arm has half of its own power. Assumes nothing.
+use mathlib.Core.Path.{refl}
+use Rattle.numeral.proofs.Words.{last-size}
+use Rattle.text.proofs.Plans.{half-at}
 use Rattle.text.proofs.half_of.Statement.{statement}
 use Rattle.text.proofs.half_of.Tie as tie
 
-abbrev Inv-loop : tie.InvT-loop
-Inv-loop width half₀ i₀ half i = (1 ≤ i) × (i ≤ width) × (half + half ≡ 256 ^ i)
+returns : tie.Need-returns
+returns c = half-at 1 128 (c .match .keys1) refl
 
-abbrev μ-loop : tie.MeasureT-loop
-μ-loop width half₀ i₀ half i = width - i
+returns-2 : tie.Need-returns-2
+returns-2 c = half-at 2 32768 (c .match .keys2) refl
 
-loop-holds : tie.Need-loop-holds Inv-loop μ-loop
-loop-holds c = (omega arith, omega arith, refl)
+returns-3 : tie.Need-returns-3
+returns-3 c = half-at 4 2147483648 (c .match .keys3) refl
 
-mul-half : tie.Need-mul-half Inv-loop μ-loop
-mul-half c = record { fits = half-fits _ _ _ (c .before .loop .inv .2) (c .loop-test .taken) (c .before .before .pre .1) }
-
-add-i : tie.Need-add-i Inv-loop μ-loop
-add-i c = search needs
-
-loop-less : tie.Need-loop-less Inv-loop μ-loop
-loop-less c = search needs
-
-loop-again : tie.Need-loop-again Inv-loop μ-loop
-loop-again c = (omega arith, omega arith, half-next _ _ (c .before .loop .inv .2))
-
-returns : tie.Need-returns Inv-loop μ-loop
-returns c = let l = c .before .loop in let e : l .i ≡ c .before .before .args .width = omega arith in rw e at (l .inv .2)
+returns-4 : tie.Need-returns-4
+returns-4 c = half-at 8 9223372036854775808 (last-size _ (c .before .pre) (c .match .rest)) refl
 
 pub half-of-spec : {M : Type 1} → statement M
-half-of-spec =
-    tie.close (tie.spec Inv-loop μ-loop loop-holds mul-half add-i loop-less loop-again returns)
+half-of-spec = tie.close (tie.spec returns returns-2 returns-3 returns-4)

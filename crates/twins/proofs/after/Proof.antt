@@ -14,6 +14,9 @@ mul-result c = search needs
 element-copy-out-result : tie.Need-element-copy-out-result
 element-copy-out-result c = search needs
 
+cast-result : tie.Need-cast-result
+cast-result c = omega (arith, c .before .before .pre .1 (c .before .if1 .left))
+
 add-result : tie.Need-add-result
 add-result c = omega (arith, c .before .before .pre .1 (c .before .if1 .left))
 
@@ -21,4 +24,4 @@ returns-2 : tie.Need-returns-2
 returns-2 c = simp (tests, c .before .if1 .left)
 
 pub after-spec : {M : Type 1} → statement M
-after-spec = tie.close (tie.spec returns mul-result element-copy-out-result add-result returns-2)
+after-spec = tie.close (tie.spec returns mul-result element-copy-out-result cast-result add-result returns-2)

@@ -18,14 +18,12 @@ abbrev μ-loop : tie.MeasureT-loop
 loop-holds : tie.Need-loop-holds Inv-loop μ-loop
 loop-holds c =
     let s = c .before .before in
-    walk-first _ _ _ _ _ (ap (λ (x : ℕ). x % 4096) (s .pre .4)) (s .pre .5)
+    walk-first _ _ _ _ _ (ap (λ (x : ℕ). x % 4096) (s .pre .5)) (s .pre .6)
 
 is-twin-requires : tie.Need-is-twin-requires Inv-loop μ-loop
 is-twin-requires c κs =
     let s = c .before .before .before .before in
-    let w = c .before .loop in
-    let l = c .loop-test .taken in
-    (s .pre .0, s .pre .1, s .pre .2, l, s .pre .4, s .pre .3 .hashed (w .j) (omega (arith, w .inv .after)) l)
+    (s .pre .0, s .pre .1, s .pre .2, c .loop-test .taken, s .pre .3, s .pre .5)
 
 returns : tie.Need-returns Inv-loop μ-loop
 returns c = walk-hit _ _ _ _ _ (c .before .before .before .loop .inv) (c .before .is-twin .ensures) (c .if1 .taken)
@@ -36,11 +34,18 @@ mul-j c = search needs
 element-copy-out-j : tie.Need-element-copy-out-j Inv-loop μ-loop
 element-copy-out-j c = search needs
 
+cast-j : tie.Need-cast-j Inv-loop μ-loop
+cast-j c =
+    let s = c .before .before .before .before .before .before .before in
+    let w = c .before .before .before .before .loop in
+    let k = s .pre .4 .linked (w .j) (omega (arith, w .inv .after)) (c .before .before .before .loop-test .taken) in
+    omega (arith, k .within, s .pre .0)
+
 loop-less : tie.Need-loop-less Inv-loop μ-loop
 loop-less c =
     let s = c .before .before .before .before .before .before .before in
     let w = c .before .before .before .before .loop in
-    let k = s .pre .3 .linked (w .j) (omega (arith, w .inv .after)) (c .before .before .before .loop-test .taken) in
+    let k = s .pre .4 .linked (w .j) (omega (arith, w .inv .after)) (c .before .before .before .loop-test .taken) in
     omega (arith, k .after, k .within)
 
 loop-again : tie.Need-loop-again Inv-loop μ-loop
@@ -49,7 +54,7 @@ loop-again c =
     let w = c .before .before .before .before .loop in
     let l = c .before .before .before .loop-test .taken in
     walk-on _ _ _ _ _ _ (w .inv) l (c .before .before .is-twin .ensures) (c .before .if1 .left)
-    (s .pre .3 .linked (w .j) (omega (arith, w .inv .after)) l)
+    (s .pre .4 .linked (w .j) (omega (arith, w .inv .after)) l)
 
 returns-2 : tie.Need-returns-2 Inv-loop μ-loop
 returns-2 c = walk-end _ _ _ _ (c .before .loop .inv) (c .loop-test .left)
@@ -65,6 +70,7 @@ find-spec =
     returns
     mul-j
     element-copy-out-j
+    cast-j
     loop-less
     loop-again
     returns-2)

@@ -1,10 +1,13 @@
 -- `twins::is_twin` meets its contract: equal parts have equal hashes. Assumes nothing.
 use borrow.Author.Needs.{needs}
 use mathlib.Core.Path.{sym, ap, _∙_}
-use Rattle.twins.specs.Search.{hashOf}
+use Rattle.hash.specs.Hash.{hashOf}
 use Rattle.twins.proofs.Equal.{not-same}
 use Rattle.twins.proofs.is_twin.Statement.{statement}
 use Rattle.twins.proofs.is_twin.Tie as tie
+
+add-if1 : tie.Need-add-if1
+add-if1 c = search needs
 
 mul-if1 : tie.Need-mul-if1
 mul-if1 c = search needs
@@ -15,7 +18,7 @@ element-copy-out-if1 c = search needs
 returns : tie.Need-returns
 returns c =
     let s = c .before .before .before .before in
-    not-same _ _ (λ e. c .if1 .taken (s .pre .5 ∙ sym (ap hashOf e) ∙ sym (s .pre .4)))
+    not-same _ _ (λ e. c .if1 .taken (s .pre .4 _ (s .pre .3) ∙ sym (ap hashOf e) ∙ sym (s .pre .5)))
 
 part-requires : tie.Need-part-requires
 part-requires c κs = search needs
@@ -33,6 +36,7 @@ pub is-twin-spec : {M : Type 1} → statement M
 is-twin-spec =
     tie.close
     (tie.spec
+    add-if1
     mul-if1
     element-copy-out-if1
     returns

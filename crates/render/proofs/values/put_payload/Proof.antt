@@ -1,43 +1,76 @@
--- `render::values::put_payload` meets its contract. Assumes nothing.
+-- `render::values::put_payload` meets its contract: one way for each kind of plan. Assumes nothing.
+use Rattle.render.proofs.Texts.{units-long, way-none, way-own, way-made, way-left}
+use Rattle.render.proofs.Rooms.{plan-room}
+use Rattle.render.proofs.Going.{hashed-as}
+use mathlib.Core.Path.{sym, _∙_}
+use native.Mathlib.Omega.{arith}
 use borrow.Author.Needs.{needs}
-use Rattle.render.proofs.Going.{put-as}
-use Rattle.render.proofs.Texts.{way-none, way-own, way-made}
 use Rattle.render.proofs.values.put_payload.Statement.{statement}
 use Rattle.render.proofs.values.put_payload.Tie as tie
 
-plan-at-requires : tie.Need-plan-at-requires
-plan-at-requires c κs = search needs
+plan-lawful-requires : tie.Need-plan-lawful-requires
+plan-lawful-requires c κs = (c .before .before .pre .1, c .before .before .pre .2)
 
 way-of-requires : tie.Need-way-of-requires
 way-of-requires c κs = search needs
 
 put-value-requires : tie.Need-put-value-requires
-put-value-requires c κs = search needs
+put-value-requires c κs = omega (arith, c .before .before .before .before .before .before .pre .3)
+
+same-length : tie.Need-same-length
+same-length c = search needs
 
 returns : tie.Need-returns
-returns c = put-as (way-none (c .before .before .before .before .before .before .args .token) (c .before .before .before .before .plan-at .ensures) _ (c .before .before .before .way-of .ensures) (c .before .before .if1 .taken)) (c .put-value .ensures)
+returns c = hashed-as (way-none (c .before .before .before .before .before .before .before .before .before .args .token) (c .before .before .before .before .before .before .plan-lawful .ensures) _ (c .before .before .before .before .before .way-of .ensures) (c .before .before .before .before .if1 .taken)) (c .before .before .put-value .ensures)
 
 put-units-requires : tie.Need-put-units-requires
-put-units-requires c κs = search needs
+put-units-requires c κs = let u = units-long (c .before .before .before .before .before .before .before .args .payload .now) in omega (arith, u .0, c .before .before .before .before .before .before .before .pre .3)
+
+same-length-2 : tie.Need-same-length-2
+same-length-2 c = search needs
 
 returns-2 : tie.Need-returns-2
-returns-2 c = put-as (way-own (c .before .before .before .before .before .before .before .args .token) (c .before .before .before .before .before .plan-at .ensures) _ (c .before .before .before .before .way-of .ensures) (c .before .before .if2 .taken)) (c .put-units .ensures)
+returns-2 c = hashed-as (way-own (c .before .before .before .before .before .before .before .before .before .before .args .token) (c .before .before .before .before .before .before .before .plan-lawful .ensures) _ (c .before .before .before .before .before .before .way-of .ensures) (c .before .before .before .before .if2 .taken)) (c .before .before .put-units .ensures)
 
-put-text-requires : tie.Need-put-text-requires
-put-text-requires c κs = search needs
+put-small-requires : tie.Need-put-small-requires
+put-small-requires c κs =
+    let m = c .before .before .before .before .before .plan-lawful .ensures in
+    let r = plan-room (c .before .before .before .before .before .before .before .before .args .token) (c .before .before .before .before .before .plan-lawful .result) (c .before .before .before .before .before .before .before .before .args .payload .now) (record { each = λ i. omega (arith, c .before .before .before .before .before .before .before .shared-slice-known .given i) }) m in
+    (sym (c .before .before .before .before .way-of .ensures) ∙ c .before .if3 .taken, m .number-fits, omega (arith, r, c .before .before .before .before .before .before .before .before .pre .3))
+
+same-length-3 : tie.Need-same-length-3
+same-length-3 c = search needs
 
 returns-3 : tie.Need-returns-3
-returns-3 c = put-as (way-made (c .before .before .before .before .before .before .before .args .token) (c .before .before .before .before .before .plan-at .ensures) _ (c .before .before .before .before .way-of .ensures) (c .before .before .before .if1 .left)) (c .put-text .ensures)
+returns-3 c = hashed-as (way-made (c .before .before .before .before .before .before .before .before .before .before .before .args .token) (c .before .before .before .before .before .before .before .before .plan-lawful .ensures) _ (c .before .before .before .before .before .before .before .way-of .ensures) (c .before .before .before .before .before .before .if1 .left)) (c .before .before .put-small .ensures)
+
+put-blob-requires : tie.Need-put-blob-requires
+put-blob-requires c κs =
+    let m = c .before .before .before .before .before .plan-lawful .ensures in
+    let r = plan-room (c .before .before .before .before .before .before .before .before .args .token) (c .before .before .before .before .before .plan-lawful .result) (c .before .before .before .before .before .before .before .before .args .payload .now) (record { each = λ i. omega (arith, c .before .before .before .before .before .before .before .shared-slice-known .given i) }) m in
+    (c .before .before .before .before .before .before .before .before .pre .0, way-left (c .before .before .before .before .before .plan-lawful .result) (c .before .before .before .before .way-of .result) (c .before .before .before .before .way-of .ensures) (c .before .before .before .if1 .left) (c .before .before .if2 .left) (c .before .if3 .left), m .payload-fits, omega (arith, r, c .before .before .before .before .before .before .before .before .pre .3))
+
+same-length-4 : tie.Need-same-length-4
+same-length-4 c = search needs
+
+returns-4 : tie.Need-returns-4
+returns-4 c = hashed-as (way-made (c .before .before .before .before .before .before .before .before .before .before .before .args .token) (c .before .before .before .before .before .before .before .before .plan-lawful .ensures) _ (c .before .before .before .before .before .before .before .way-of .ensures) (c .before .before .before .before .before .before .if1 .left)) (c .before .before .put-blob .ensures)
 
 pub put-payload-spec : {M : Type 1} → statement M
 put-payload-spec =
     tie.close
     (tie.spec
-    plan-at-requires
+    plan-lawful-requires
     way-of-requires
     put-value-requires
+    same-length
     returns
     put-units-requires
+    same-length-2
     returns-2
-    put-text-requires
-    returns-3)
+    put-small-requires
+    same-length-3
+    returns-3
+    put-blob-requires
+    same-length-4
+    returns-4)

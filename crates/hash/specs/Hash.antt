@@ -1,0 +1,13 @@
+-- The hash of a list of numbers: a multiply with carry for each, from the first to the last.
+use Prim.Native.Nat.{ℕ, _+_, _*_, _/_, _%_}
+use mathlib.Core.List.{List, [], _∷_}
+
+abbrev pub mixOf : ℕ → ℕ → ℕ
+mixOf h x = (h % 4294967296) * 4294957665 + h / 4294967296 + x
+
+unfoldable pub hashFrom : ℕ → List ℕ → ℕ
+hashFrom h [] = h
+hashFrom h (x ∷ l) = hashFrom (mixOf h x) l
+
+abbrev pub hashOf : List ℕ → ℕ
+hashOf l = hashFrom 88172645463325252 l

@@ -1,0 +1,13 @@
+// The hash of a list of numbers, one step for each. What uses it depends on this alone: equal lists have equal hashes.
+ghost use mathlib.Core.Path.{_≡_};
+ghost use Rattle.hash.specs.Hash.{mixOf};
+
+// The hash of no number.
+pub const SEED: u64 = 88172645463325252;
+
+// The hash with one number more: a multiply with carry, which never wraps.
+pub fn mix(h: u64, x: u32) -> u64
+    ensures { λ r. ⌜ r ≡ mixOf h x ⌝ }
+{
+    (h % 4294967296) * 4294957665 + h / 4294967296 + (x as u64)
+}

@@ -1,0 +1,21 @@
+-- `token::fixed_at` meets its contract: the table's rule at the byte. Assumes nothing.
+use borrow.Author.Needs.{needs}
+use native.Mathlib.Omega.{arith}
+use Rattle.token.proofs.Fixed.{fixed-here}
+use Rattle.token.proofs.fixed_at.Statement.{statement}
+use Rattle.token.proofs.fixed_at.Tie as tie
+
+mul-fixed-from : tie.Need-mul-fixed-from
+mul-fixed-from c = search needs
+
+element-copy-out-fixed-from : tie.Need-element-copy-out-fixed-from
+element-copy-out-fixed-from c = search needs
+
+fixed-from-requires : tie.Need-fixed-from-requires
+fixed-from-requires c κs = search needs
+
+returns : tie.Need-returns
+returns c = fixed-here (c .before .before .pre) (omega arith) (c .fixed-from .ensures)
+
+pub fixed-at-spec : {M : Type 1} → statement M
+fixed-at-spec = tie.close (tie.spec mul-fixed-from element-copy-out-fixed-from fixed-from-requires returns)
