@@ -3,7 +3,7 @@
 use Prim.Native.Nat.{ℕ, zero, suc, _+_, _-_, _*_, _/_, _≤_, _<_}
 use mathlib.Core.Path.{_≡_, refl, sym, _∙_, ap}
 use mathlib.Core.Logic.{_⊎_, inl, inr}
-use mathlib.Core.Bool.{Bool, true, false, _||_}
+use mathlib.Core.Bool.{true, false, _||_}
 use mathlib.Core.List.{List, [], _∷_, _++_, map, append-assoc}
 use native.Mathlib.Numerals.{add-one}
 use native.Mathlib.Omega.{arith}
@@ -17,11 +17,10 @@ use Rattle.token.specs.Answers.{longest}
 use Rattle.token.specs.Tokens.{classOf, shapeOf}
 use Rattle.token.specs.declared.Class.{Class}
 use Rattle.number.specs.Number.{shortest}
-use Rattle.value.specs.Rules.{lawful}
 use Rattle.value.specs.Fields.{textAt, fieldAt}
 use Rattle.value.specs.declared.Text.the-variants as text
 use Rattle.value.specs.declared.Field.the-variants as field
-use Rattle.value.proofs.Fields.{field-inside, payload-inside}
+use Rattle.value.proofs.Fields.{field-inside, payload-inside, payload-lawful, not-qname}
 use Rattle.scan.specs.Modes.{content, listing, declares, allowed, afterMetadata, afterMisc, afterValue}
 use Rattle.scan.specs.declared.Mode.{Mode}
 use Rattle.scan.specs.declared.Mode.the-variants as mode
@@ -44,8 +43,8 @@ use Rattle.grammar.proofs.Payloads.{payload-found}
 use Rattle.grammar.proofs.Sound.{pointOf}
 use Rattle.grammar.proofs.Steps.{stateOf, value, instruction, after-xmldecl, after-encoding, nests, leaves}
 use Rattle.grammar.proofs.Ends.{allOpen, allNested}
-use Rattle.canonical.proofs.Lists.{clash, drop-byte, Mem, mem-getD, at-last}
-use Rattle.canonical.proofs.Written.{Fit, number-at, text-at, header-at, found-lawful, payload-at}
+use Rattle.canonical.proofs.Lists.{drop-byte, Mem, mem-getD, at-last}
+use Rattle.canonical.proofs.Written.{Fit, number-at, text-at, header-at, payload-at}
 use Rattle.canonical.proofs.Modes.{same, earlier-equal, earlier-metadata, earlier-declares, declaring, alike-on, alike-earlier}
 use Rattle.canonical.proofs.Texts.{fresh-grown, number-grown}
 use Rattle.canonical.proofs.Scopes.{nameIs, rowTriple, half-none, half-few, Among, empty, text, Parts, one-name, one-qname, one-flush, document, around-depth, inner}
@@ -61,15 +60,6 @@ value-may v found.version-2 a = and-left (content (v .mode) || listing (v .mode)
 values-of : (v : View) {c : Class} → ValueClass c → allowed c v ≡ true → Values (v .version) c
 values-of v found.any-version a = any-version
 values-of v found.version-2 a = later (eqb-true _ _ (and-right (content (v .mode) || listing (v .mode)) _ a))
-
--- a token with a lawful payload is not the one that refers to a qname
-not-qname : (token : ℕ) (p : List ℕ) → lawful (shapeOf token) p ≡ true → eqb token 0x8C ≡ false
-unfolding shapeOf lawful
-not-qname token p l = go (eqb token 0x8C) refl
-  where
-    go : (b : Bool) → eqb token 0x8C ≡ b → eqb token 0x8C ≡ false
-    go true e = let k : token ≡ 0x8C = eqb-true token 0x8C e in let z : lawful (shapeOf 0x8C) p ≡ true = rw k at l in clash (cc)
-    go false e = e
 
 value-told : (doc : List ℕ) (names : List NameRow) (qnames : List QnameRow) (token at a b : ℕ) {c : Class} → ValueClass c → classOf token ≡ c → eqb token 0x8C ≡ false
     → eventOf doc names qnames (event token at a b) ≡ events.valued token (part doc a b)
@@ -90,7 +80,7 @@ module _ (d : List ℕ) (N : List NameRow) (Q : List QnameRow) (d′ : List ℕ)
   on-value {s} {rs} {c} {place} {size} short t k f go s′ σ G o S =
       let token = getD d (s .at) 0 in
       let p = part d place size in
-      let l = found-lawful (shapeOf token) d (s .at) f in
+      let l = payload-lawful (shapeOf token) d (s .at) f in
       let n = not-qname token p l in
       let r : EventRow = event token (s .at) place size in
       let h : tell d N Q d′ room fit E r ≡ events.valued token p = value-told d N Q token (s .at) place size k (t .class-is) n in

@@ -1,7 +1,7 @@
 -- What reading finds where the form's bytes stand: numbers, texts, headers and payloads. Assumes nothing.
 use Prim.Native.Nat.{ℕ, _+_, _*_, _/_, _%_, _≤_, _<_}
 use mathlib.Core.Path.{_≡_, refl, _∙_}
-use mathlib.Core.Bool.{Bool, true, false, cond, _&&_}
+use mathlib.Core.Bool.{Bool, true, _&&_}
 use mathlib.Core.List.{List, [], _∷_, _++_, append-assoc}
 use native.Mathlib.Omega.{arith}
 use lib.Dec.{leb, eqb}
@@ -9,7 +9,7 @@ use lib.ListN.{length, getD, drop}
 use borrow.Author.Tests.{leb-true, eqb-true, lt-ltb, le-leb}
 use Rattle.lists.specs.Lists.{part}
 use Rattle.lists.proofs.Tests.{cond-if, and-left, and-right}
-use Rattle.token.specs.Answers.{largest, badValue}
+use Rattle.token.specs.Answers.{largest}
 use Rattle.token.specs.Tokens.{Token, tokens, find, shapeOf}
 use Rattle.token.specs.declared.Shape.{Shape}
 use Rattle.token.specs.declared.Shape.the-variants.{Nothing, Fixed, Text, Blob, CodePage, Decimal, Qname, Stamp, Date, Time, ZonedTime}
@@ -18,8 +18,7 @@ use Rattle.number.specs.declared.Number.the-variants as number
 use Rattle.number.proofs.Within.{number-within, is-within}
 use Rattle.number.proofs.Spelling.{shortest-read}
 use Rattle.value.specs.Rules.{decimalSize, decimalLawful, timeBytes, timeLawful, zonedLawful, lawful}
-use Rattle.value.specs.Fields.{needed, textAt, textPayload, timeField, extentAt, ruled, fieldAt}
-use Rattle.value.specs.declared.Field.{Field}
+use Rattle.value.specs.Fields.{needed, textAt, textPayload, timeField, extentAt, fieldAt}
 use Rattle.value.specs.declared.Field.the-variants as field
 use Rattle.form.specs.Canonical.{counted, lengthOf, headerOf}
 use Rattle.grammar.specs.Fields.{TextData}
@@ -60,21 +59,6 @@ wide-found code (t ∷ ts) h =
 wide-shape : (code : ℕ) → wide (shapeOf code) ≡ true
 unfolding shapeOf
 wide-shape code = wide-found code tokens refl
-
--- ---- the payload that reading found obeys the rules
-
-ruled-lawful : (h : Shape) (d : List ℕ) (at : ℕ) (f : Field) {place size : ℕ} → ruled h d at f ≡ field.Payload place size → lawful h (part d place size) ≡ true
-ruled-lawful h d at (field.Payload a n) {place} {size} e = go (lawful h (part d a n)) refl e
-  where
-    go : (b : Bool) → lawful h (part d a n) ≡ b → cond b (field.Payload a n) (field.Refused badValue at) ≡ field.Payload place size → lawful h (part d place size) ≡ true
-    go true l e = let i : a ≡ place = cc in let j : n ≡ size = cc in rw (i, j) at l
-    go false l e = clash (cc)
-ruled-lawful h d at (field.Reference k next) e = clash (cc)
-ruled-lawful h d at (field.Refused n place) e = clash (cc)
-
-pub found-lawful : (h : Shape) (d : List ℕ) (at : ℕ) {place size : ℕ} → fieldAt h d at ≡ field.Payload place size → lawful h (part d place size) ≡ true
-unfolding fieldAt
-found-lawful h d at e = ruled-lawful h d at (extentAt h d at) e
 
 module _ (d : List ℕ) where
   -- ---- numbers and texts

@@ -36,6 +36,17 @@ place-is same (y ∷ l) a (suc p) e t f =
     let r = place-is same l a p e t (λ k z m g. f (suc k) z (omega arith) g) in
     rw h (ap suc r)
 
+-- the place of the value of row r, where no row before it has that value
+pub place-own : {A : Type 0} (same : A → A → Bool) → Tells same → (l : List A) (m : ℕ → A) (r : ℕ) → ((k : ℕ) → k ≤ r → getElem? l k ≡ some (m k))
+    → ((k : ℕ) → k < r → m k ≡ m r → ⊥) → place same l (m r) ≡ r
+place-own {A} same tells l m r at n = place-is same l (m r) r (at r (omega arith)) (tells .itself (m r)) other
+  where
+    other : (k : ℕ) (y : A) → k < r → getElem? l k ≡ some y → same y (m r) ≡ false
+    other k y h g =
+        let a = at k (omega arith) in
+        let i : y ≡ m k = cc in
+        rw i (apart same tells (m k) (m r) (n k h))
+
 -- a text that has a class: the empty one, or one of the list
 abbrev pub Known : List (List ℕ) → List ℕ → Type 0
 Known T t = (t ≡ []) ⊎ (place sameText T t < length T)

@@ -1,10 +1,12 @@
 -- Rows of qnames with equal keys have equal texts; and the loop that fills the classes. Assumes nothing.
-use Prim.Native.Nat.{ℕ, zero, suc, _+_, _-_, _*_, _≤_, _<_}
+use Prim.Native.Nat.{ℕ, zero, suc, _+_, _*_, _%_, _≤_, _<_}
 use mathlib.Core.Path.{_≡_, refl, ap, sym, _∙_}
-use mathlib.Core.Bool.{true, false}
+use mathlib.Core.Bool.{cond}
 use mathlib.Core.Option.{some}
 use mathlib.Core.List.{List}
 use native.Mathlib.Omega.{arith}
+use native.Mathlib.Numerals.{add-one}
+use lib.Dec.{ltb}
 use lib.ListN.{length, getD, getElem?, set}
 use Rattle.lists.specs.Lists.{Front}
 use Rattle.lists.proofs.Overlay.{front-at}
@@ -15,11 +17,12 @@ use Rattle.form.specs.Places.{Triple, sameTriple, numberOf, qnumberOf}
 use Rattle.form.proofs.Places.{tells-triple}
 use Rattle.classes.specs.Tables.{nameRowsIn, qnameRowsIn}
 use Rattle.classes.specs.Classes.{textsOf, nameClasses, tripleOf, triplesOf, qnameClasses}
-use Rattle.classes.specs.Search.{classAt, keyOf, Keyable, keyAt, FirstKey}
+use Rattle.classes.specs.Search.{Last, Chained, classAt, keyOf, Keyable, keyAt}
 use Rattle.classes.proofs.Tables.{length-name-rows, qname-row-at, length-qname-rows, at-some, every-at}
-use Rattle.classes.proofs.Classes.{apart, place-is, same-class, class-text, name-class-at, name-text-at, length-classes, triples-at, qname-class-at, length-qclasses}
+use Rattle.classes.proofs.Classes.{place-own, same-class, class-text, name-class-at, name-text-at, length-classes, triples-at, qname-class-at, length-qclasses}
 use Rattle.classes.proofs.Keys.{key-apart}
 use Rattle.classes.proofs.Filled.{Filled, filled-none, filled-next, filled-front}
+use Rattle.classes.proofs.Chain.{last-as, chained-as, Slotted, slotted-none, slotted-next, class-chosen}
 
 module _ (doc : List ℕ) (N : List NameRow) (classes : List ℕ) (few : length N ≤ 1024) (front : Front (nameClasses doc N) classes) where
   class-is : (x : ℕ) → x ≤ length N → classAt classes x ≡ numberOf (textsOf doc N) (nameText doc N x)
@@ -77,20 +80,45 @@ abbrev tripleAt : List ℕ → List NameRow → List ℕ → ℕ → Triple
 tripleAt doc N qnames k = tripleOf doc N (qnameAt qnames k)
 
 module _ (doc names : List ℕ) (rows : ℕ) (qnames : List ℕ) (count : ℕ) (classes : List ℕ) where
-  -- the keys and classes of the rows before r are made
-  pub record Keyed (keys qclasses : List ℕ) (r : ℕ) : Type 0 where
+  abbrev classFor : ℕ → ℕ
+  classFor k = getD (qnameClasses doc (nameRowsIn rows names) (qnameRowsIn count qnames)) k 0
+
+  -- the keys of the rows before r are stored, and the rows are in their slots and have their classes
+  pub record Keyed (qclasses slots chain keys : List ℕ) (r : ℕ) : Type 0 where
     pub within : r ≤ count
     pub keyed : Filled (keyAt qnames classes) r keys
-    pub classed : Filled (λ k. getD (qnameClasses doc (nameRowsIn rows names) (qnameRowsIn count qnames)) k 0) r qclasses
+    pub slotted : Slotted (λ k. keyAt qnames classes k % 2039) r slots chain
+    pub classed : Filled classFor r qclasses
 
-  pub keyed-none : (keys qclasses : List ℕ) → length keys ≡ 1024 → length qclasses ≡ 1024 → Keyed keys qclasses 0
-  keyed-none keys qclasses h l = record { within = omega arith; keyed = filled-none h; classed = filled-none l }
+  pub keyed-none : (qclasses slots chain keys : List ℕ) → length qclasses ≡ 1024 → length slots ≡ 2039 → length chain ≡ 1024 → length keys ≡ 1024
+      → ((b : ℕ) → b < 2039 → getD slots b 0 ≡ 1024) → Keyed qclasses slots chain keys 0
+  keyed-none qclasses slots chain keys l h i m f =
+      record { within = omega arith; keyed = filled-none m; slotted = slotted-none _ slots chain h i f; classed = filled-none l }
 
-  pub keyed-all : (keys qclasses : List ℕ) (r : ℕ) → Keyed keys qclasses r → count ≤ r → count ≤ 1024
+  pub keyed-all : (qclasses slots chain keys : List ℕ) (r : ℕ) → Keyed qclasses slots chain keys r → count ≤ r → count ≤ 1024
       → Front (qnameClasses doc (nameRowsIn rows names) (qnameRowsIn count qnames)) qclasses × (length qclasses ≡ 1024)
-  keyed-all keys qclasses r x h b =
+  keyed-all qclasses slots chain keys r x h b =
       let n = length-qclasses doc (nameRowsIn rows names) (qnameRowsIn count qnames) ∙ length-qname-rows count qnames in
       (filled-front _ (x .classed) (omega (arith, n)) (omega (arith, x .within)), x .classed .long)
+
+  -- the keys of the rows up to r stand in the array that is searched
+  module _ (qclasses slots chain keys : List ℕ) (r key : ℕ) (x : Keyed qclasses slots chain keys r) (b : r < 1024) (e : key ≡ keyAt qnames classes r) where
+    stored : Filled (keyAt qnames classes) (r + 1) (set keys r key)
+    stored = filled-next key (x .keyed) b e
+
+    stored-at : (k : ℕ) → k ≤ r → getD (set keys r key) k 0 ≡ keyAt qnames classes k
+    stored-at k h = stored .are k (omega arith)
+
+    slot-at : (k : ℕ) → k ≤ r → keyAt qnames classes k % 2039 ≡ getD (set keys r key) k 0 % 2039
+    slot-at k h = ap (λ (v : ℕ). v % 2039) (sym (stored-at k h))
+
+    pub searched : (r < 1024) × Chained (λ k. getD (set keys r key) k 0 % 2039) r chain
+        × Last (λ k. getD (set keys r key) k 0 % 2039) (getD (set keys r key) r 0 % 2039) r (getD slots (key % 2039) 0)
+    searched = (
+      b,
+      chained-as (λ k h. slot-at k (omega arith)) (x .slotted .chained),
+      last-as (λ k h. slot-at k (omega arith)) (ap (λ (v : ℕ). v % 2039) e ∙ slot-at r (omega arith)) (x .slotted .heads (key % 2039) (omega arith)),
+    )
 
   module _ (few : rows ≤ 1024) (front : Front (nameClasses doc (nameRowsIn rows names)) classes)
       (fits : Every (QnameFits rows) (qnameRowsIn count qnames)) where
@@ -124,41 +152,34 @@ module _ (doc names : List ℕ) (rows : ℕ) (qnames : List ℕ) (count : ℕ) (
         → getElem? (triplesOf doc (nameRowsIn rows names) (qnameRowsIn count qnames)) k ≡ some (tripleAt doc (nameRowsIn rows names) qnames k)
     triple-at k h = triples-at doc (nameRowsIn rows names) (qnameRowsIn count qnames) k (qname-row-at count qnames k h)
 
-    -- the first row with the key of row r is the first with its triple
-    module _ (keys : List ℕ) (r c : ℕ) (l : r < count) (x : Filled (keyAt qnames classes) (r + 1) keys) (y : FirstKey keys r c) where
-      key-at : (k : ℕ) → k ≤ r → getD keys k 0 ≡ keyAt qnames classes k
-      key-at k h = x .are k (omega arith)
+    class-at : (k : ℕ) → k < count → classFor k ≡ qnumberOf (triplesOf doc (nameRowsIn rows names) (qnameRowsIn count qnames)) (tripleAt doc (nameRowsIn rows names) qnames k)
+    class-at k h = qname-class-at doc (nameRowsIn rows names) (qnameRowsIn count qnames) k (qname-row-at count qnames k h)
 
-      before : (k : ℕ) → k < c - 1 → sameTriple (tripleAt doc (nameRowsIn rows names) qnames k) (tripleAt doc (nameRowsIn rows names) qnames r) ≡ false
-      before k h =
-          let n : keyAt qnames classes k ≡ keyAt qnames classes r → ⊥ =
-          λ e. y .before k (omega arith) (key-at k (omega (arith, y .to)) ∙ e ∙ sym (key-at r (omega arith))) in
-          apart sameTriple tells-triple _ _ (λ e. n (same-key k r (omega (arith, y .to)) l e))
+    -- no row before r has its key
+    key-own : (r : ℕ) → r < count → ((k : ℕ) → k < r → keyAt qnames classes k ≡ keyAt qnames classes r → ⊥) → r + 1 ≡ classFor r
+    unfolding qnumberOf
+    key-own r l n =
+        let q =
+        place-own sameTriple tells-triple (triplesOf doc (nameRowsIn rows names) (qnameRowsIn count qnames)) (λ k. tripleAt doc (nameRowsIn rows names) qnames k) r
+        (λ k h. triple-at k (omega arith)) (λ k h e. n k h (same-key k r (omega arith) l e)) in
+        add-one r ∙ sym (class-at r l ∙ ap suc q)
 
-      pub first-class : c ≡ qnumberOf (triplesOf doc (nameRowsIn rows names) (qnameRowsIn count qnames)) (tripleAt doc (nameRowsIn rows names) qnames r)
-      unfolding qnumberOf
-      first-class =
-          let h : c - 1 ≤ r = omega (arith, y .to) in
-          let e : keyAt qnames classes (c - 1) ≡ keyAt qnames classes r = sym (key-at (c - 1) h) ∙ y .equal ∙ key-at r (omega arith) in
-          let i = key-same (c - 1) r (omega arith) l e in
-          let t : sameTriple (tripleAt doc (nameRowsIn rows names) qnames (c - 1)) (tripleAt doc (nameRowsIn rows names) qnames r) ≡ true =
-          rw i (tells-triple .itself _) in
-          let q =
-          place-is sameTriple (triplesOf doc (nameRowsIn rows names) (qnameRowsIn count qnames)) (tripleAt doc (nameRowsIn rows names) qnames r) (c - 1)
-          (triple-at (c - 1) (omega arith)) t other in
-          omega (arith, q, y .from)
-        where
-          other : (k : ℕ) (z : Triple) → k < c - 1 → getElem? (triplesOf doc (nameRowsIn rows names) (qnameRowsIn count qnames)) k ≡ some z
-              → sameTriple z (tripleAt doc (nameRowsIn rows names) qnames r) ≡ false
-          other k z m g =
-              let a = triple-at k (omega (arith, y .to)) in
-              let i : z ≡ tripleAt doc (nameRowsIn rows names) qnames k = cc in
-              rw i (before k m)
-
-    pub keyed-next : (keys qclasses : List ℕ) (r k c : ℕ) → Keyed keys qclasses r → r < count → count ≤ 1024 → k ≡ keyAt qnames classes r
-        → FirstKey (set keys r k) r c → Keyed (set keys r k) (set qclasses r c) (r + 1)
-    keyed-next keys qclasses r k c x l b e y =
-        let f = filled-next k (x .keyed) (omega arith) e in
-        let i = first-class (set keys r k) r c l f y in
-        let j = qname-class-at doc (nameRowsIn rows names) (qnameRowsIn count qnames) r (qname-row-at count qnames r l) in
-        record { within = omega arith; keyed = f; classed = filled-next c (x .classed) (omega arith) (i ∙ sym j) }
+    pub keyed-next : (qclasses slots chain keys slots′ chain′ : List ℕ) (r key j c : ℕ) → Keyed qclasses slots chain keys r → r < count → count ≤ 1024
+        → key ≡ keyAt qnames classes r → Last (λ k. getD (set keys r key) k 0) (getD (set keys r key) r 0) r j
+        → c ≡ cond (ltb j 1024) (getD qclasses j 0) (r + 1)
+        → (slots′ ≡ set slots (key % 2039) r) × (chain′ ≡ set chain r (getD slots (key % 2039) 0))
+        → Keyed (set qclasses r c) slots′ chain′ (set keys r key) (r + 1)
+    keyed-next qclasses slots chain keys slots′ chain′ r key j c x l few-keys e y i put =
+        let b : r < 1024 = omega arith in
+        let at = stored-at qclasses slots chain keys r key x b e in
+        let found : Last (keyAt qnames classes) (keyAt qnames classes r) r j = last-as (λ k h. at k (omega arith)) (at r (omega arith)) y in
+        let same : (k : ℕ) → k < r → keyAt qnames classes k ≡ keyAt qnames classes r → classFor k ≡ classFor r =
+        λ k h q. class-at k (omega arith)
+        ∙ ap (qnumberOf (triplesOf doc (nameRowsIn rows names) (qnameRowsIn count qnames))) (key-same k r (omega arith) l q)
+        ∙ sym (class-at r l) in
+        record {
+          within = omega arith;
+          keyed = stored qclasses slots chain keys r key x b e;
+          slotted = slotted-next _ r (key % 2039) (x .slotted) b (ap (λ (v : ℕ). v % 2039) e) (omega arith) put;
+          classed = filled-next c (x .classed) b (class-chosen j (r + 1) c found (x .classed) same (key-own r l) i);
+        }

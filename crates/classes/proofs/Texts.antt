@@ -1,6 +1,6 @@
 -- The hash of a text and the comparison of two texts, byte after byte: what holds after some turns. Assumes nothing.
 use Prim.Native.Nat.{ℕ, suc, _+_, _-_, _*_, _%_, _≤_, _<_}
-use mathlib.Core.Path.{_≡_, refl, ap, sym, _∙_}
+use mathlib.Core.Path.{_≡_, ap, sym, _∙_}
 use mathlib.Core.Bool.{Bool, true, false}
 use mathlib.Core.List.{List, _∷_}
 use native.Mathlib.Nat.{add-zero, sub-zero}
@@ -38,8 +38,8 @@ hash-next doc place size h i a x l =
       still = rw e′ (sym (rw (e, part-cons doc (place + i) (size - (i + 1)) (omega arith))) ∙ x .still);
     }
 
-pub hash-end : (doc : List ℕ) (place size h i : ℕ) → Hashing doc place size h i → size ≤ i → (h ≡ hashOf (part doc place size)) × (h < 4294967296)
-hash-end doc place size h i x l = let e : size - i ≡ 0 = omega arith in (rw e at (x .still), x .low)
+pub hash-end : (doc : List ℕ) (place size h i : ℕ) → Hashing doc place size h i → size ≤ i → h ≡ hashOf (part doc place size)
+hash-end doc place size h i x l = let e : size - i ≡ 0 = omega arith in rw e at (x .still)
 
 -- two texts of one length, of which i bytes are the same
 module _ (doc : List ℕ) (a b n : ℕ) where

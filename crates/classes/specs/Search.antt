@@ -1,11 +1,10 @@
--- What the functions of the search hand to each other: numbers of a table, what a row refers to, and keys of qnames.
-use Prim.Native.Nat.{ℕ, zero, suc, _+_, _-_, _*_, _≤_, _<_}
+-- What the functions of the search hand to each other: numbers of a table, what a row refers to, slots and the chains of rows
+-- with equal slots, and keys of qnames.
+use Prim.Native.Nat.{ℕ, zero, suc, _+_, _*_, _%_, _≤_, _<_}
 use mathlib.Core.Path.{_≡_}
 use mathlib.Core.List.{List}
 use lib.ListN.{length, getD}
 use Rattle.reader.specs.Rows.{NameRow, nameRow}
-use Rattle.reader.specs.Facts.{Every, NameFits}
-use Rattle.classes.specs.Tables.{nameRowsIn}
 use Rattle.classes.specs.Classes.{rowText, hashOf}
 
 -- row k of a table of names, from 0, and its text
@@ -15,16 +14,27 @@ nameAt l k = nameRow (getD l (2 * k) 0) (getD l (2 * k + 1) 0)
 abbrev pub textOf : List ℕ → List ℕ → ℕ → List ℕ
 textOf doc names k = rowText doc (nameAt names k)
 
--- a table of names that is searched: its rows, and each text inside the document
-pub record NameTable (doc names : List ℕ) (count : ℕ) : Type 0 where
-  pub few : count ≤ 1024
-  pub long : 2 * count ≤ length names
+-- a table of at least n names that is searched: their rows, and each text inside the document
+pub record NameTable (doc names : List ℕ) (n : ℕ) : Type 0 where
+  pub few : n ≤ 1024
+  pub long : 2 * n ≤ length names
   pub short : length doc ≤ 65536
-  pub fits : Every (NameFits (length doc)) (nameRowsIn count names)
+  pub inside : (k : ℕ) → k < n → getD names (2 * k) 0 + 2 * getD names (2 * k + 1) 0 ≤ length doc
 
--- the hashes of the first n rows stand in an array
-pub record Hashed (doc names : List ℕ) (n : ℕ) (hashes : List ℕ) : Type 0 where
-  pub are : (k : ℕ) → k < n → getD hashes k 0 ≡ hashOf (textOf doc names k)
+-- the slot of a text
+abbrev pub slotOf : List ℕ → ℕ
+slotOf t = hashOf t % 2039
+
+-- j is the last row before row r at which m is a, or 1,024 where there is none
+pub record Last {A : Type 0} (m : ℕ → A) (a : A) (r j : ℕ) : Type 0 where
+  pub within : j ≤ 1024
+  pub before : j < 1024 → j < r
+  pub hits : j < 1024 → m j ≡ a
+  pub latest : (k : ℕ) → k < r → m k ≡ a → (j < 1024) × (k ≤ j)
+
+-- for each of the first n rows the last row before it in its slot
+pub record Chained (slot : ℕ → ℕ) (n : ℕ) (chain : List ℕ) : Type 0 where
+  pub linked : (k : ℕ) → k < n → Last slot (slot k) k (getD chain k 0)
 
 -- the class of row x of names, from 1; row 0 is the empty name
 abbrev pub classAt : List ℕ → ℕ → ℕ
@@ -44,10 +54,3 @@ pub record Keyable (classes : List ℕ) (x : ℕ) : Type 0 where
 unfoldable pub keyAt : List ℕ → List ℕ → ℕ → ℕ
 keyAt qnames classes k =
     keyOf (classAt classes (getD qnames (3 * k) 0)) (classAt classes (getD qnames (3 * k + 1) 0)) (classAt classes (getD qnames (3 * k + 2) 0))
-
--- c is one more than the first place of an array that holds the same number as place r
-pub record FirstKey (keys : List ℕ) (r c : ℕ) : Type 0 where
-  pub from : 1 ≤ c
-  pub to : c ≤ r + 1
-  pub equal : getD keys (c - 1) 0 ≡ getD keys r 0
-  pub before : (k : ℕ) → k + 1 < c → getD keys k 0 ≡ getD keys r 0 → ⊥

@@ -1,13 +1,17 @@
-// Classes of rows with equal texts, for names and for qnames: texts are compared here, once for each table.
+// Classes of rows with equal texts, for names and for qnames: texts are compared here, once for each table. A row is compared
+// with the earlier rows of its slot of a hash table only, so the work is about linear in the rows; the classes do not depend
+// on the hash.
 ghost use mathlib.Core.Path.{_≡_};
-ghost use Prim.Native.Nat.{_+_, _*_, _≤_, _<_};
-ghost use lib.ListN.{length, getD};
+ghost use mathlib.Core.Bool.{cond};
+ghost use Prim.Native.Nat.{_+_, _*_, _%_, _≤_, _<_};
+ghost use lib.ListN.{length, getD, set};
+ghost use lib.Dec.{ltb, eqb};
 ghost use Rattle.lists.specs.Lists.{Front, part};
 ghost use Rattle.reader.specs.Facts.{Every, NameFits, QnameFits};
-ghost use Rattle.form.specs.Places.{sameText, numberOf};
+ghost use Rattle.form.specs.Places.{sameText};
 ghost use Rattle.classes.specs.Tables.{nameRowsIn, qnameRowsIn};
-ghost use Rattle.classes.specs.Classes.{nameClasses, qnameClasses, hashOf, textsOf};
-ghost use Rattle.classes.specs.Search.{textOf, NameTable, Hashed, classAt, Keyable, keyAt, FirstKey};
+ghost use Rattle.classes.specs.Classes.{nameClasses, qnameClasses, hashOf};
+ghost use Rattle.classes.specs.Search.{textOf, NameTable, slotOf, Last, Chained, classAt, Keyable, keyAt};
 
 // A number of a table.
 pub fn cell(table: &[u32], k: usize) -> usize
@@ -20,7 +24,7 @@ pub fn cell(table: &[u32], k: usize) -> usize
 // Equal texts have equal hashes.
 fn hash_of(doc: &[u8], place: usize, size: usize) -> u64
     requires { ⌜ (place + size ≤ length (now doc)) × (length (now doc) ≤ 65536) ⌝ }
-    ensures { λ r. ⌜ (r ≡ hashOf (part (now (doc .entry)) place size)) × (r < 4294967296) ⌝ }
+    ensures { λ r. ⌜ r ≡ hashOf (part (now (doc .entry)) place size) ⌝ }
 {
     let mut h: u64 = 0;
     let mut i: usize = 0;
@@ -58,27 +62,63 @@ fn same_row(doc: &[u8], names: &[u32], j: usize, place: usize, units: usize) -> 
     same_part(doc, cell(names, 2 * j), place, 2 * units)
 }
 
-// The class of row `r` of names: the number of the first row with its text, 0 for the empty text.
-fn first_name(doc: &[u8], names: &[u32], count: usize, hashes: &[u32; 1024], r: usize) -> u32
-    requires { ⌜ NameTable (now doc) (now names) count × (r < count) × Hashed (now doc) (now names) (r + 1) (now hashes) ⌝ }
-    ensures { λ c. ⌜ c ≡ numberOf (textsOf (now (doc .entry)) (nameRowsIn count (now (names .entry)))) (textOf (now (doc .entry)) (now (names .entry)) r) ⌝ }
+// The slot of row `r` of names.
+fn slot_of(doc: &[u8], names: &[u32], r: usize) -> usize
+    requires { ⌜ NameTable (now doc) (now names) (r + 1) ⌝ }
+    ensures { λ s. ⌜ (s ≡ slotOf (textOf (now (doc .entry)) (now (names .entry)) r)) × (s < 2039) ⌝ }
 {
+    let hash = hash_of(doc, cell(names, 2 * r), 2 * cell(names, 2 * r + 1));
+    (hash % 2039) as usize
+}
+
+// The last row before row `r` of names with its text, along the chain of its slot from row `first` on; 1024 where there is none.
+fn find_name(doc: &[u8], names: &[u32], chain: &[u16; 1024], first: usize, r: usize) -> usize
+    requires { ⌜ NameTable (now doc) (now names) (r + 1)
+        × Chained (λ k. slotOf (textOf (now doc) (now names) k)) r (now chain)
+        × Last (λ k. slotOf (textOf (now doc) (now names) k)) (slotOf (textOf (now doc) (now names) r)) r first ⌝ }
+    ensures { λ j. ⌜ Last (textOf (now (doc .entry)) (now (names .entry))) (textOf (now (doc .entry)) (now (names .entry)) r) r j ⌝ }
+{
+    let place = cell(names, 2 * r);
     let units = cell(names, 2 * r + 1);
-    if units == 0 {
+    let mut j = first;
+    while j < 1024 {
+        if same_row(doc, names, j, place, units) {
+            return j;
+        }
+        j = chain[j] as usize;
+    }
+    j
+}
+
+// The class of row `r` of names where no earlier row has its text: 0 for the empty text.
+fn own_class(names: &[u32], r: usize) -> u32
+    requires { ⌜ (r < 1024) × (2 * r + 2 ≤ length (now names)) ⌝ }
+    ensures { λ c. ⌜ c ≡ cond (eqb (getD (now (names .entry)) (2 * r + 1) 0) 0) 0 (r + 1) ⌝ }
+{
+    if cell(names, 2 * r + 1) == 0 {
         return 0;
     }
-    let place = cell(names, 2 * r);
-    let hash = hashes[r];
-    let mut j: usize = 0;
-    while j < r {
-        if hashes[j] == hash {
-            if same_row(doc, names, j, place, units) {
-                return j as u32 + 1;
-            }
-        }
-        j += 1;
-    }
     r as u32 + 1
+}
+
+// The class of row `j`, or `own` where `j` is no row.
+fn class_or(classes: &[u32; 1024], j: usize, own: u32) -> u32
+    ensures { λ c. ⌜ c ≡ cond (ltb j 1024) (getD (now (classes .entry)) j 0) own ⌝ }
+{
+    if j < 1024 {
+        return classes[j];
+    }
+    own
+}
+
+// Puts row `r` at the front of slot `s`: the row that was there is the one before it.
+fn put_row(slots: &mut [u16; 2039], chain: &mut [u16; 1024], s: usize, r: usize)
+    requires { ⌜ (s < 2039) × (r < 1024) ⌝ }
+    ensures { λ _. ⌜ (now (slots .exit) ≡ set (now (slots .entry)) s r)
+        × (now (chain .exit) ≡ set (now (chain .entry)) r (getD (now (slots .entry)) s 0)) ⌝ }
+{
+    chain[r] = slots[s];
+    slots[s] = r as u16;
 }
 
 // The class of each of the first `count` rows of names.
@@ -88,18 +128,24 @@ pub fn name_classes(doc: &[u8], names: &[u32], count: usize, classes: &mut [u32;
     ensures { λ _. ⌜ Front (nameClasses (now (doc .entry)) (nameRowsIn count (now (names .entry)))) (now (classes .exit))
         × (length (now (classes .exit)) ≡ 1024) ⌝ }
 {
-    // a first value whose bytes differ is stored by vector instructions, not by memset
-    let mut hashes = [1u32; 1024];
+    // The last row of each slot, or 1024, and for each row the one before it in its slot, written before it is read. A first
+    // value whose bytes differ is stored by vector instructions, not by memset.
+    let mut slots = [1024u16; 2039];
+    let mut chain = [1u16; 1024];
     let mut r: usize = 0;
     while r < count {
-        hashes[r] = hash_of(doc, cell(names, 2 * r), 2 * cell(names, 2 * r + 1)) as u32;
-        classes[r] = first_name(doc, names, count, &hashes, r);
+        let s = slot_of(doc, names, r);
+        let first = slots[s] as usize;
+        let j = find_name(doc, names, &chain, first, r);
+        let own = own_class(names, r);
+        classes[r] = class_or(classes, j, own);
+        put_row(&mut slots, &mut chain, s, r);
         r += 1;
     }
 }
 
 // The class of the row of names that number `k` of a table of qnames refers to, 0 for row 0, the empty name.
-fn class_of(qnames: &[u32], classes: &[u32; 1024], k: usize) -> u32
+pub fn class_of(qnames: &[u32], classes: &[u32; 1024], k: usize) -> u32
     requires { ⌜ (k < length (now qnames)) × Keyable (now classes) (getD (now qnames) k 0) ⌝ }
     ensures { λ r. ⌜ (r ≡ classAt (now (classes .entry)) (getD (now (qnames .entry)) k 0)) × (r ≤ 1024) ⌝ }
 {
@@ -122,20 +168,21 @@ fn key_of(qnames: &[u32], classes: &[u32; 1024], r: usize) -> u32
     (uri * 1025 + prefix) * 1025 + local
 }
 
-// One more than the first place that holds the key of place `r`.
-fn first_key(keys: &[u32; 1024], r: usize) -> u32
-    requires { ⌜ r < 1024 ⌝ }
-    ensures { λ c. ⌜ FirstKey (now (keys .entry)) r c ⌝ }
+// The last place before place `r` that holds its key, along the chain of its slot from place `first` on; 1024 where there is none.
+fn find_key(keys: &[u32; 1024], chain: &[u16; 1024], first: usize, r: usize) -> usize
+    requires { ⌜ (r < 1024) × Chained (λ k. getD (now keys) k 0 % 2039) r (now chain)
+        × Last (λ k. getD (now keys) k 0 % 2039) (getD (now keys) r 0 % 2039) r first ⌝ }
+    ensures { λ j. ⌜ Last (λ k. getD (now (keys .entry)) k 0) (getD (now (keys .entry)) r 0) r j ⌝ }
 {
     let key = keys[r];
-    let mut k: usize = 0;
-    while k < r {
-        if keys[k] == key {
-            return k as u32 + 1;
+    let mut j = first;
+    while j < 1024 {
+        if keys[j] == key {
+            return j;
         }
-        k += 1;
+        j = chain[j] as usize;
     }
-    r as u32 + 1
+    j
 }
 
 // The class of each of the first `count` rows of qnames; `classes` are those of the names' rows.
@@ -155,11 +202,19 @@ pub fn qname_classes(
     ensures { λ _. ⌜ Front (qnameClasses (now (doc .entry)) (nameRowsIn rows (now (names .entry))) (qnameRowsIn count (now (qnames .entry)))) (now (qclasses .exit))
         × (length (now (qclasses .exit)) ≡ 1024) ⌝ }
 {
-    let mut keys = [0u32; 1024];
+    // as for names; a row's slot is that of its key
+    let mut slots = [1024u16; 2039];
+    let mut chain = [1u16; 1024];
+    let mut keys = [1u32; 1024];
     let mut r: usize = 0;
     while r < count {
-        keys[r] = key_of(qnames, classes, r);
-        qclasses[r] = first_key(&keys, r);
+        let key = key_of(qnames, classes, r);
+        keys[r] = key;
+        let s = (key % 2039) as usize;
+        let first = slots[s] as usize;
+        let j = find_key(&keys, &chain, first, r);
+        qclasses[r] = class_or(qclasses, j, r as u32 + 1);
+        put_row(&mut slots, &mut chain, s, r);
         r += 1;
     }
 }

@@ -89,7 +89,7 @@ judged-number place records pairs room e = go (ltb room pairs) refl e
     go true h f = absurd (let q : ⊥ = omega arith in q)
     go false h f = ltb-false _ _ h
 
-accepted-both : (doc : List ℕ) (r : Result) (room : ℕ) → answerOf doc r room .number ≡ 0 → (r .number ≡ 0) × (length (pairsIn doc r) ≤ room)
+pub accepted-both : (doc : List ℕ) (r : Result) (room : ℕ) → answerOf doc r room .number ≡ 0 → (r .number ≡ 0) × (length (pairsIn doc r) ≤ room)
 unfolding answerOf
 accepted-both doc r room e = go (eqb (r .number) accepted) refl e
   where
@@ -124,7 +124,7 @@ module _ (doc : List ℕ) (r : Result) (room : ℕ) (ok : r .number ≡ 0) where
   unfolding judged
   answer-held l = answered ∙ simp (tests, l)
 
-  answer-counts : (answerOf doc r room .records ≡ length (meaningsIn doc r)) × (answerOf doc r room .pairs ≡ length (pairsIn doc r))
+  pub answer-counts : (answerOf doc r room .records ≡ length (meaningsIn doc r)) × (answerOf doc r room .pairs ≡ length (pairsIn doc r))
   answer-counts = ⊎-elim
       (λ (l : room < length (pairsIn doc r)). let e = answer-small l in (ap (λ (x : Answer). x .records) e, ap (λ (x : Answer). x .pairs) e))
       (λ (l : length (pairsIn doc r) ≤ room). let e = answer-held l in (ap (λ (x : Answer). x .records) e, ap (λ (x : Answer). x .pairs) e))

@@ -1,14 +1,15 @@
 -- The tests of specs/Meaning.antt decide equality of texts, of symbols and of meanings. Assumes nothing.
 use Prim.Native.Nat.{ℕ}
-use mathlib.Core.Path.{_≡_, refl}
+use mathlib.Core.Path.{_≡_, refl, sym, _∙_}
 use mathlib.Core.Logic.{_↔_}
 use mathlib.Core.List.{List, [], _∷_}
-use mathlib.Core.Bool.{true, false, _&&_}
+use mathlib.Core.Bool.{true, false, cond, _&&_}
 use native.Mathlib.Omega.{arith}
 use lib.Dec.{eqb}
+use lib.ListN.{getD}
 use borrow.Author.Tests.{eq-eqb, eqb-true}
 use Rattle.lists.proofs.Tests.{and-left, and-right}
-use Rattle.meaning.specs.Meaning.{Symbol, unit, opening, ending, attribute, closing, value, qname, same, sameSymbol, sameMeaning}
+use Rattle.meaning.specs.Meaning.{Symbol, unit, opening, ending, attribute, closing, value, qname, same, kindOf, firstOf, secondOf, sameSymbol, sameMeaning}
 
 pub never : {A : Type 0} → false ≡ true → A
 never e = absurd (let z : _≡_ {A = ℕ} 0 1 = cc in let q : ⊥ = omega arith in q)
@@ -30,73 +31,35 @@ same-true (x ∷ a) (y ∷ b) e =
 pub same-list : (a b : List ℕ) → (same a b ≡ true) ↔ (a ≡ b)
 same-list a b = (same-true a b, λ e. rw e (same-refl b))
 
-both : (u v l m : List ℕ) → (same u v && same l m) ≡ true → (u ≡ v) × (l ≡ m)
-both u v l m e = (same-true u v (and-left (same u v) (same l m) e), same-true l m (and-right (same u v) (same l m) e))
+-- the symbol of a kind and two lists
+abbrev symbolBy : ℕ → List ℕ → List ℕ → Symbol
+symbolBy kind a b =
+    cond (eqb kind 0) (unit (getD a 0 0))
+    (cond (eqb kind 1) (opening a b)
+    (cond (eqb kind 2) ending
+    (cond (eqb kind 3) (attribute a b) (cond (eqb kind 4) closing (cond (eqb kind 5) (value (getD a 0 0) b) (qname a b))))))
+
+symbol-by : (x : Symbol) → symbolBy (kindOf x) (firstOf x) (secondOf x) ≡ x
+symbol-by (unit u) = refl
+symbol-by (opening uri local) = refl
+symbol-by ending = refl
+symbol-by (attribute uri local) = refl
+symbol-by closing = refl
+symbol-by (value token payload) = refl
+symbol-by (qname uri local) = refl
 
 symbol-true : (x y : Symbol) → sameSymbol x y ≡ true → x ≡ y
 unfolding sameSymbol
-symbol-true (unit a) (unit b) e = let h : a ≡ b = eqb-true a b e in cc
-symbol-true (unit a) (opening v m) e = never e
-symbol-true (unit a) ending e = never e
-symbol-true (unit a) (attribute v m) e = never e
-symbol-true (unit a) closing e = never e
-symbol-true (unit a) (value s r) e = never e
-symbol-true (unit a) (qname v m) e = never e
-symbol-true (opening u l) (unit b) e = never e
-symbol-true (opening u l) (opening v m) e = let h = both u v l m e in let h0 : u ≡ v = h .0 in let h1 : l ≡ m = h .1 in cc
-symbol-true (opening u l) ending e = never e
-symbol-true (opening u l) (attribute v m) e = never e
-symbol-true (opening u l) closing e = never e
-symbol-true (opening u l) (value s r) e = never e
-symbol-true (opening u l) (qname v m) e = never e
-symbol-true ending (unit b) e = never e
-symbol-true ending (opening v m) e = never e
-symbol-true ending ending e = refl
-symbol-true ending (attribute v m) e = never e
-symbol-true ending closing e = never e
-symbol-true ending (value s r) e = never e
-symbol-true ending (qname v m) e = never e
-symbol-true (attribute u l) (unit b) e = never e
-symbol-true (attribute u l) (opening v m) e = never e
-symbol-true (attribute u l) ending e = never e
-symbol-true (attribute u l) (attribute v m) e = let h = both u v l m e in let h0 : u ≡ v = h .0 in let h1 : l ≡ m = h .1 in cc
-symbol-true (attribute u l) closing e = never e
-symbol-true (attribute u l) (value s r) e = never e
-symbol-true (attribute u l) (qname v m) e = never e
-symbol-true closing (unit b) e = never e
-symbol-true closing (opening v m) e = never e
-symbol-true closing ending e = never e
-symbol-true closing (attribute v m) e = never e
-symbol-true closing closing e = refl
-symbol-true closing (value s r) e = never e
-symbol-true closing (qname v m) e = never e
-symbol-true (value t p) (unit b) e = never e
-symbol-true (value t p) (opening v m) e = never e
-symbol-true (value t p) ending e = never e
-symbol-true (value t p) (attribute v m) e = never e
-symbol-true (value t p) closing e = never e
-symbol-true (value t p) (value s r) e =
-    let h : t ≡ s = eqb-true t s (and-left (eqb t s) (same p r) e) in
-    let k : p ≡ r = same-true p r (and-right (eqb t s) (same p r) e) in
-    cc
-symbol-true (value t p) (qname v m) e = never e
-symbol-true (qname u l) (unit b) e = never e
-symbol-true (qname u l) (opening v m) e = never e
-symbol-true (qname u l) ending e = never e
-symbol-true (qname u l) (attribute v m) e = never e
-symbol-true (qname u l) closing e = never e
-symbol-true (qname u l) (value s r) e = never e
-symbol-true (qname u l) (qname v m) e = let h = both u v l m e in let h0 : u ≡ v = h .0 in let h1 : l ≡ m = h .1 in cc
+symbol-true x y e =
+    let k : kindOf x ≡ kindOf y = eqb-true _ _ (and-left (eqb (kindOf x) (kindOf y)) _ e) in
+    let h = and-right (eqb (kindOf x) (kindOf y)) _ e in
+    let a : firstOf x ≡ firstOf y = same-true _ _ (and-left (same (firstOf x) (firstOf y)) _ h) in
+    let b : secondOf x ≡ secondOf y = same-true _ _ (and-right (same (firstOf x) (firstOf y)) _ h) in
+    sym (symbol-by x) ∙ rw (k, a, b) (symbol-by y)
 
 symbol-refl : (x : Symbol) → sameSymbol x x ≡ true
 unfolding sameSymbol
-symbol-refl (unit a) = eq-eqb a a refl
-symbol-refl (opening u l) = rw (same-refl u) (same-refl l)
-symbol-refl ending = refl
-symbol-refl (attribute u l) = rw (same-refl u) (same-refl l)
-symbol-refl closing = refl
-symbol-refl (value t p) = rw (eq-eqb t t refl) (same-refl p)
-symbol-refl (qname u l) = rw (same-refl u) (same-refl l)
+symbol-refl x = rw (eq-eqb (kindOf x) (kindOf x) refl, same-refl (firstOf x)) (same-refl (secondOf x))
 
 -- the test of two symbols decides their equality
 pub same-symbol : (x y : Symbol) → (sameSymbol x y ≡ true) ↔ (x ≡ y)

@@ -150,56 +150,36 @@ meanings es = rest (pieces 0 none-open es)
 
 -- ---- equal meanings
 
+-- a symbol's kind and the two lists that it carries, which together are the symbol
+abbrev pub kindOf : Symbol → ℕ
+kindOf (unit u) = 0
+kindOf (opening uri local) = 1
+kindOf ending = 2
+kindOf (attribute uri local) = 3
+kindOf closing = 4
+kindOf (value token payload) = 5
+kindOf (qname uri local) = 6
+
+abbrev pub firstOf : Symbol → List ℕ
+firstOf (unit u) = u ∷ []
+firstOf (opening uri local) = uri
+firstOf ending = []
+firstOf (attribute uri local) = uri
+firstOf closing = []
+firstOf (value token payload) = token ∷ []
+firstOf (qname uri local) = uri
+
+abbrev pub secondOf : Symbol → List ℕ
+secondOf (unit u) = []
+secondOf (opening uri local) = local
+secondOf ending = []
+secondOf (attribute uri local) = local
+secondOf closing = []
+secondOf (value token payload) = payload
+secondOf (qname uri local) = local
+
 unfoldable pub sameSymbol : Symbol → Symbol → Bool
-sameSymbol (unit a) (unit b) = eqb a b
-sameSymbol (unit a) (opening u l) = false
-sameSymbol (unit a) ending = false
-sameSymbol (unit a) (attribute u l) = false
-sameSymbol (unit a) closing = false
-sameSymbol (unit a) (value t p) = false
-sameSymbol (unit a) (qname u l) = false
-sameSymbol (opening u l) (unit b) = false
-sameSymbol (opening u l) (opening v m) = same u v && same l m
-sameSymbol (opening u l) ending = false
-sameSymbol (opening u l) (attribute v m) = false
-sameSymbol (opening u l) closing = false
-sameSymbol (opening u l) (value t p) = false
-sameSymbol (opening u l) (qname v m) = false
-sameSymbol ending (unit b) = false
-sameSymbol ending (opening v m) = false
-sameSymbol ending ending = true
-sameSymbol ending (attribute v m) = false
-sameSymbol ending closing = false
-sameSymbol ending (value t p) = false
-sameSymbol ending (qname v m) = false
-sameSymbol (attribute u l) (unit b) = false
-sameSymbol (attribute u l) (opening v m) = false
-sameSymbol (attribute u l) ending = false
-sameSymbol (attribute u l) (attribute v m) = same u v && same l m
-sameSymbol (attribute u l) closing = false
-sameSymbol (attribute u l) (value t p) = false
-sameSymbol (attribute u l) (qname v m) = false
-sameSymbol closing (unit b) = false
-sameSymbol closing (opening v m) = false
-sameSymbol closing ending = false
-sameSymbol closing (attribute v m) = false
-sameSymbol closing closing = true
-sameSymbol closing (value t p) = false
-sameSymbol closing (qname v m) = false
-sameSymbol (value t p) (unit b) = false
-sameSymbol (value t p) (opening v m) = false
-sameSymbol (value t p) ending = false
-sameSymbol (value t p) (attribute v m) = false
-sameSymbol (value t p) closing = false
-sameSymbol (value t p) (value s r) = eqb t s && same p r
-sameSymbol (value t p) (qname v m) = false
-sameSymbol (qname u l) (unit b) = false
-sameSymbol (qname u l) (opening v m) = false
-sameSymbol (qname u l) ending = false
-sameSymbol (qname u l) (attribute v m) = false
-sameSymbol (qname u l) closing = false
-sameSymbol (qname u l) (value t p) = false
-sameSymbol (qname u l) (qname v m) = same u v && same l m
+sameSymbol x y = eqb (kindOf x) (kindOf y) && (same (firstOf x) (firstOf y) && same (secondOf x) (secondOf y))
 
 abbrev pub sameMeaning : List Symbol → List Symbol → Bool
 sameMeaning [] [] = true

@@ -1,13 +1,11 @@
 // The bytes of the canonical form, into a lent output or only counted: an output that ends at or before a place takes nothing.
 ghost use mathlib.Core.Path.{_≡_};
-ghost use mathlib.Core.Bool.{true};
 ghost use mathlib.Core.List.{_++_};
 ghost use Prim.Native.Nat.{_+_, _*_, _≤_};
 ghost use lib.ListN.{length, set};
 ghost use lib.Seq.{sets};
 ghost use Rattle.lists.specs.Lists.{part};
 ghost use Rattle.number.specs.Number.{shortest};
-ghost use Rattle.value.specs.Rules.{lawful};
 ghost use Rattle.form.specs.Canonical.{counted, lengthOf, headerOf};
 ghost use Rattle.output.specs.Output.{Fits, Put};
 use token::Shape;
@@ -105,7 +103,6 @@ pub fn put_value(
     at: usize,
 ) -> usize
     requires { ⌜ (place + size ≤ length (now doc)) × (length (now doc) ≤ 65536) × (at ≤ 1099511627776)
-        × (lawful shape (part (now doc) place size) ≡ true)
         × Fits (length (now out)) at (length (lengthOf shape (part (now doc) place size)) + size) ⌝ }
     ensures { λ r. ⌜ Put (now (out .entry)) (now (out .exit)) at r (lengthOf shape (part (now (doc .entry)) place size) ++ part (now (doc .entry)) place size) ⌝ }
 {

@@ -15,12 +15,9 @@ fn run(i: usize) {
     libc::close(file);
     io::write_all(STDOUT_FILENO, &path[..length]);
     io::write_all(STDOUT_FILENO, b"\n");
-    let mut names = [0u32; 2048];
-    let mut qnames = [0u32; 3072];
-    let mut events = [0u32; 16384];
-    let answer = reader::read(&doc[..size], &mut names, &mut qnames, &mut events);
-    report::write_answer(answer);
-    report::write_rows(&names, &qnames, &events, answer);
+    let mut text = [0u8; 239771];
+    let from = report::print(&doc[..size], &mut text);
+    io::write_all(STDOUT_FILENO, &text[from..]);
 }
 
 fn main() {

@@ -2,9 +2,10 @@
 use Prim.Native.Nat.{ℕ, zero, suc, _+_, _-_, _*_, _≤_, _<_}
 use mathlib.Core.Path.{_≡_, refl, subst}
 use mathlib.Core.Logic.{_⊎_, inl, inr}
-use mathlib.Core.Bool.{true}
+use mathlib.Core.Bool.{Bool, true, false, _||_}
 use mathlib.Core.List.{List, [], _∷_, _++_}
 use native.Mathlib.Omega.{arith}
+use lib.Dec.{eqb}
 use lib.ListN.{length, getD, length-append}
 use borrow.Author.Tests.{eqb-true}
 use Rattle.token.specs.Tokens.{classOf, shapeOf}
@@ -49,6 +50,15 @@ pub every-at : {P : ℕ → Type 0} {l : List ℕ} → Every P l → (k : ℕ) �
 every-at facts.none k i = absurd (let q : ⊥ = omega arith in q)
 every-at (facts.first p h) zero i = p
 every-at (facts.first p h) (suc k) i = every-at h k (omega arith)
+
+-- what holds for each number of a list holds for one of them
+pub every-one-of : (ks : List ℕ) (P : ℕ → Type 0) (x : ℕ) → Every P ks → oneOf ks x ≡ true → P x
+every-one-of [] P x h e = absurd (let z : _≡_ {A = ℕ} 0 1 = cc in let q : ⊥ = omega arith in q)
+every-one-of (k ∷ ks) P x (facts.first p h) e = go (eqb x k) refl e (λ i. every-one-of ks P x h i)
+  where
+    go : (b : Bool) → eqb x k ≡ b → (b || oneOf ks x) ≡ true → (oneOf ks x ≡ true → P x) → P x
+    go true i e f = rw (eqb-true x k i) p
+    go false i e f = f e
 
 -- ---- what is known of the rows stays true of more rows
 

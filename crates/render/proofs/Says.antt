@@ -14,10 +14,12 @@ use Rattle.lists.proofs.Units.{bytes-take, bytes-drop}
 use Rattle.token.specs.Tokens.{classOf, shapeOf}
 use Rattle.token.specs.declared.Class.the-variants as class
 use Rattle.value.specs.Rules.{lawful}
+use Rattle.value.proofs.Fields.{payload-lawful, not-qname}
 use Rattle.reader.specs.Rows.{EventRow, event}
 use Rattle.reader.specs.Events.{Event, texted, qnamed, valued, plain, eventBy, eventOf}
 use Rattle.reader.specs.Facts as facts
 use Rattle.reader.specs.Facts.{textTokens, qnameTokens, bareTokens, EventFits}
+use Rattle.reader.proofs.Facts.{every-one-of}
 use Rattle.text.specs.Text.{textOf}
 use Rattle.classes.specs.Tables.{nameRowsIn, qnameRowsIn}
 use Rattle.meaning.specs.Meaning.{Symbol, Attribute, none-open, counted, skipped, unit, attribute, value, qname, declares, closed, unless, shownAs, namedSymbols, plainSymbols, symbolsOf, attributeAfter, opens, closes}
@@ -30,7 +32,7 @@ use Rattle.render.proofs.Rows.{close-few, is-value}
 use Rattle.render.proofs.Rooms.{text-room}
 use Rattle.render.proofs.MarkLaws.{mark-opening, mark-attribute, mark-declares, mark-counts, mark-qname}
 use Rattle.render.proofs.Texts.{units-long}
-use Rattle.render.proofs.Tokens.{one-of, value-code, not-qname, text-there, payload-there, payload-lawful}
+use Rattle.render.proofs.Tokens.{value-code, text-there, payload-there}
 use Rattle.render.proofs.Names.{named-row, named-event, pair-both}
 
 no-way : {A : Type 0} → false ≡ true → A
@@ -360,26 +362,27 @@ module _ {doc names qnames events classes marks : List ℕ} {rows qrows count : 
   says (facts.standalone {place = p} {value = v} l) = quiet 0 p v 0 _ (still _ (λ q. refl) (λ q. refl) refl refl) (other 0 refl refl refl refl refl refl refl)
   says (facts.texted {token = k} {place = p} {a = a} {units = u} t e) =
       let i = text-there doc (p + 1) e in
-      one-of textTokens (λ (x : ℕ). Says (event x p a u) (eventOf doc (nameRowsIn rows names) (qnameRowsIn qrows qnames) (event x p a u))) k
+      every-one-of textTokens (λ (x : ℕ). Says (event x p a u) (eventOf doc (nameRowsIn rows names) (qnameRowsIn qrows qnames) (event x p a u))) k
       (facts.first (words 0xFE p a u (other 0xFE refl refl refl refl refl refl refl)) (facts.first (words 0xFD p a u (other 0xFD refl refl refl refl refl refl refl))
       (facts.first (words 0xFC p a u (other 0xFC refl refl refl refl refl refl refl)) (facts.first (words 0xFB p a u (other 0xFB refl refl refl refl refl refl refl))
       (facts.first (words 0xFA p a u (other 0xFA refl refl refl refl refl refl refl)) (facts.first (words 0xF9 p a u (other 0xF9 refl refl refl refl refl refl refl))
       (facts.first (words 0xF3 p a u (other 0xF3 refl refl refl refl refl refl refl)) (facts.first (says-chunk p a u (i .1)) facts.none)))))))) t
   says (facts.pi {place = p} {row = row} {start = s} r l e) = quiet 0xF4 p row s _ (still _ (λ q. refl) (λ q. refl) refl refl) (other 0xF4 refl refl refl refl refl refl refl)
   says (facts.reference {token = k} {place = p} {row = row} t a b l h) =
-      one-of qnameTokens (λ (x : ℕ). Says (event x p row 0) (eventOf doc (nameRowsIn rows names) (qnameRowsIn qrows qnames) (event x p row 0))) k
+      every-one-of qnameTokens (λ (x : ℕ). Says (event x p row 0) (eventOf doc (nameRowsIn rows names) (qnameRowsIn qrows qnames) (event x p row 0))) k
       (facts.first (says-row 0xF8 p row _ (named-event doc names qnames rows qrows 0xF8 row a b) (says-element p row a b))
       (facts.first (says-row 0xF6 p row _ (named-event doc names qnames rows qrows 0xF6 row a b) (says-attribute p row a b))
       (facts.first (says-row 0x8C p row _ (named-event doc names qnames rows qrows 0x8C row a b) (says-qname p row a b)) facts.none))) t
   says (facts.nested {place = p} {version = v} a b) = quiet 0xEC p v 0 _ (still _ (λ q. refl) (λ q. refl) refl refl) (other 0xEC refl refl refl refl refl refl refl)
   says (facts.bare {token = k} {place = p} t) =
-      one-of bareTokens (λ (x : ℕ). Says (event x p 0 0) (eventOf doc (nameRowsIn rows names) (qnameRowsIn qrows qnames) (event x p 0 0))) k
+      every-one-of bareTokens (λ (x : ℕ). Says (event x p 0 0) (eventOf doc (nameRowsIn rows names) (qnameRowsIn qrows qnames) (event x p 0 0))) k
       (facts.first (says-end p) (facts.first (says-closing p) (facts.first (none-of 0xF1 p (other 0xF1 refl refl refl refl refl refl refl))
       (facts.first (none-of 0xEB p (other 0xEB refl refl refl refl refl refl refl)) facts.none)))) t
   says (facts.value {token = k} {place = p} {a = a} {size = n} c e) =
       let i = payload-there doc (shapeOf k) p e in
-      let b = not-qname k doc p e in
-      by-class c (says-value k p a n (value-code k c) b (i .1) (payload-lawful (shapeOf k) doc p e)) b
+      let l = payload-lawful (shapeOf k) doc p e in
+      let b = not-qname k (part doc a n) l in
+      by-class c (says-value k p a n (value-code k c) b (i .1) l) b
     where
       by-class : (classOf k ≡ class.Value) ⊎ (classOf k ≡ class.LaterValue) → Says (event k p a n) (valued k (part doc a n)) → eqb k 0x8C ≡ false
           → Says (event k p a n) (eventBy (classOf k) doc (nameRowsIn rows names) (qnameRowsIn qrows qnames) (event k p a n))

@@ -1,29 +1,26 @@
 -- The rows of events: which tokens they have, how far each reaches, and that they lie one after the other. Assumes nothing.
 use Prim.Native.Nat.{ℕ, _+_, _*_, _≤_, _<_}
-use mathlib.Core.Path.{_≡_, refl, subst}
+use mathlib.Core.Path.{_≡_, refl}
 use mathlib.Core.Logic.{_⊎_, inl, inr}
-use mathlib.Core.Bool.{Bool, true, false, cond, _&&_, _||_}
+use mathlib.Core.Bool.{Bool, true, false, cond, _&&_}
 use mathlib.Core.List.{List, [], _∷_, _++_}
 use native.Mathlib.Omega.{arith}
 use lib.Dec.{eqb, ltb}
 use lib.ListN.{length}
 use borrow.Author.Tests.{eqb-true, ltb-true}
-use Rattle.lists.specs.Lists.{part}
 use Rattle.lists.proofs.Tests.{and-left, and-right}
 use Rattle.token.specs.Tokens.{Token, token, tokens, find, classOf, shapeOf}
 use Rattle.token.specs.declared.Class.{Class}
 use Rattle.token.specs.declared.Class.the-variants as class
 use Rattle.token.specs.declared.Shape.{Shape}
-use Rattle.value.specs.Rules.{lawful}
-use Rattle.value.specs.Fields.{textAt, extentAt, ruled, fieldAt, Inside, Lies}
+use Rattle.value.specs.Fields.{textAt, fieldAt}
 use Rattle.value.specs.declared.Text.the-variants as text
-use Rattle.value.specs.declared.Text as texts
-use Rattle.value.specs.declared.Field.{Field}
 use Rattle.value.specs.declared.Field.the-variants as field
-use Rattle.value.proofs.Fields.{field-inside, text-lies}
+use Rattle.value.proofs.Fields.{field-inside, payload-inside, text-lies, is-lies}
 use Rattle.reader.specs.Rows.{EventRow}
 use Rattle.reader.specs.Facts as facts
-use Rattle.reader.specs.Facts.{oneOf, textTokens, qnameTokens, bareTokens, EventFits, Placed}
+use Rattle.reader.specs.Facts.{textTokens, qnameTokens, bareTokens, EventFits, Placed}
+use Rattle.reader.proofs.Facts.{every-one-of}
 use Rattle.render.specs.Codes.{roomBy}
 use Rattle.render.proofs.Rows.{room-value}
 
@@ -86,54 +83,14 @@ value-code code c = found-low code tokens refl (by c)
     by (inl e) = rw e
     by (inr e) = rw e
 
--- what holds for each number of a list holds for one of them
-pub one-of : (ks : List ℕ) (P : ℕ → Type 0) (x : ℕ) → facts.Every P ks → oneOf ks x ≡ true → P x
-one-of [] P x h e = absurd (let z : _≡_ {A = ℕ} 0 1 = cc in let q : ⊥ = omega arith in q)
-one-of (k ∷ ks) P x (facts.first p h) e = go (eqb x k) refl e (λ i. one-of ks P x h i)
-  where
-    go : (b : Bool) → eqb x k ≡ b → (b || oneOf ks x) ≡ true → (oneOf ks x ≡ true → P x) → P x
-    go true i e f = rw (eqb-true x k i) p
-    go false i e f = f e
-
--- ---- payloads
-
-ruled-lawful : (shape : Shape) (doc : List ℕ) (at : ℕ) (f : Field) {place size : ℕ} → ruled shape doc at f ≡ field.Payload place size → lawful shape (part doc place size) ≡ true
-ruled-lawful shape doc at (field.Payload p n) {place} {size} e = go (lawful shape (part doc p n)) refl e
-  where
-    go : (b : Bool) → lawful shape (part doc p n) ≡ b → cond b (field.Payload p n) (field.Refused 7 at) ≡ field.Payload place size → lawful shape (part doc place size) ≡ true
-    go true h e = let i : p ≡ place = cc in let j : n ≡ size = cc in rw (← i, ← j) h
-    go false h e = absurd (let z : _≡_ {A = ℕ} 0 1 = cc in let q : ⊥ = omega arith in q)
-ruled-lawful shape doc at (field.Reference number next) e = absurd (let z : _≡_ {A = ℕ} 0 1 = cc in let q : ⊥ = omega arith in q)
-ruled-lawful shape doc at (field.Refused number p) e = absurd (let z : _≡_ {A = ℕ} 0 1 = cc in let q : ⊥ = omega arith in q)
-
-pub payload-lawful : (shape : Shape) (doc : List ℕ) (at : ℕ) {place size : ℕ} → fieldAt shape doc at ≡ field.Payload place size → lawful shape (part doc place size) ≡ true
-unfolding fieldAt
-payload-lawful shape doc at e = ruled-lawful shape doc at (extentAt shape doc at) e
-
--- no payload has the token that refers to a qname
-pub not-qname : (code : ℕ) (doc : List ℕ) (at : ℕ) {place size : ℕ} → fieldAt (shapeOf code) doc at ≡ field.Payload place size → eqb code 0x8C ≡ false
-unfolding lawful shapeOf
-not-qname code doc at {place} {size} f = go (eqb code 0x8C) refl
-  where
-    h : lawful (shapeOf code) (part doc place size) ≡ true
-    h = payload-lawful (shapeOf code) doc at f
-
-    go : (b : Bool) → eqb code 0x8C ≡ b → eqb code 0x8C ≡ false
-    go true e =
-        absurd
-        (let k : code ≡ 0x8C = eqb-true code 0x8C e in
-        let i : lawful (shapeOf 0x8C) (part doc place size) ≡ true = rw k at h in
-        let z : _≡_ {A = ℕ} 0 1 = cc in
-        let q : ⊥ = omega arith in
-        q)
-    go false e = e
+-- ---- rows
 
 module _ (doc : List ℕ) where
   pub text-there : (at : ℕ) {place units : ℕ} → textAt 5 doc at ≡ text.Is place units → (at < place) × (place + 2 * units ≤ length doc)
-  text-there at {place} {units} e = let l = subst (λ (t : texts.Text). Lies (length doc) at t) e (text-lies 5 doc at) in (l .0, l .1)
+  text-there at e = let l = is-lies (length doc) at e (text-lies 5 doc at) in (l .0, l .1)
 
   pub payload-there : (shape : Shape) (at : ℕ) {place size : ℕ} → fieldAt shape doc at ≡ field.Payload place size → (at < place) × (place + size ≤ length doc)
-  payload-there shape at e = subst (λ (f : Field). Inside (length doc) at f) e (field-inside shape doc at)
+  payload-there shape at e = payload-inside (length doc) at e (field-inside shape doc at)
 
   module _ (m n : ℕ) where
     -- a row adds at most five numbers for each of its bytes, and two more
@@ -141,15 +98,15 @@ module _ (doc : List ℕ) where
     fits-room (facts.standalone {place = p} v) = omega arith
     fits-room (facts.texted {token = k} {place = p} {a = a} {units = u} t e) =
         let i = text-there (p + 1) e in
-        one-of textTokens (λ (x : ℕ). roomBy x u + 5 * p ≤ 5 * (a + 2 * u) + 2) k
+        every-one-of textTokens (λ (x : ℕ). roomBy x u + 5 * p ≤ 5 * (a + 2 * u) + 2) k
         (facts.first (omega arith) (facts.first (omega arith) (facts.first (omega arith) (facts.first (omega arith)
         (facts.first (omega arith) (facts.first (omega arith) (facts.first (omega arith) (facts.first (omega arith) facts.none)))))))) t
     fits-room (facts.pi {place = p} {start = s} r l e) = let i = text-there s e in omega arith
     fits-room (facts.reference {token = k} {place = p} {next = next} t a b l h) =
-        one-of qnameTokens (λ (x : ℕ). roomBy x 0 + 5 * p ≤ 5 * next + 2) k (facts.first (omega arith) (facts.first (omega arith) (facts.first (omega arith) facts.none))) t
+        every-one-of qnameTokens (λ (x : ℕ). roomBy x 0 + 5 * p ≤ 5 * next + 2) k (facts.first (omega arith) (facts.first (omega arith) (facts.first (omega arith) facts.none))) t
     fits-room (facts.nested a b) = omega arith
     fits-room (facts.bare {token = k} {place = p} t) =
-        one-of bareTokens (λ (x : ℕ). roomBy x 0 + 5 * p ≤ 5 * (p + 1) + 2) k
+        every-one-of bareTokens (λ (x : ℕ). roomBy x 0 + 5 * p ≤ 5 * (p + 1) + 2) k
         (facts.first (omega arith) (facts.first (omega arith) (facts.first (omega arith) (facts.first (omega arith) facts.none)))) t
     fits-room (facts.value {token = k} {place = p} {a = a} {size = s} c e) =
         let i = payload-there (shapeOf k) p e in

@@ -2,25 +2,12 @@
 ghost use mathlib.Core.Path.{_≡_};
 ghost use mathlib.Core.Bool.{_||_};
 ghost use Prim.Native.Nat.{ℕ, _≤_, _<_};
-ghost use lib.ListN.{length, getD, take};
-ghost use Rattle.classes.specs.Search.{classAt, Keyable};
+ghost use lib.ListN.{length, take};
 ghost use Rattle.meaning.specs.Meaning.{same, xmlns};
 ghost use Rattle.render.specs.Codes.{pairOf, PairFits, Named, declaresAt, xmlnsColon};
 ghost use Rattle.render.specs.Marks.{markOf, MarksOf};
 
 // ---- classes
-
-// The class of the row of names that number `k` of a table of qnames refers to, 0 for row 0, the empty name.
-fn class_of(qnames: &[u32], classes: &[u32; 1024], k: usize) -> u32
-    requires { ⌜ (k < length (now qnames)) × Keyable (now classes) (getD (now qnames) k 0) ⌝ }
-    ensures { λ r. ⌜ (r ≡ classAt (now (classes .entry)) (getD (now (qnames .entry)) k 0)) × (r ≤ 1024) ⌝ }
-{
-    let row = classes::cell(qnames, k);
-    if row == 0 {
-        return 0;
-    }
-    classes[row - 1]
-}
 
 // The classes of URI and local of a row of qnames as one number.
 fn pair_at(qnames: &[u32], classes: &[u32; 1024], row: usize) -> u32
@@ -28,8 +15,8 @@ fn pair_at(qnames: &[u32], classes: &[u32; 1024], row: usize) -> u32
     ensures { λ r. ⌜ (r ≡ pairOf (now (qnames .entry)) (now (classes .entry)) row) × (r ≤ 1050624) ⌝ }
 {
     let first = 3 * (row - 1);
-    let uri = class_of(qnames, classes, first);
-    let local = class_of(qnames, classes, first + 2);
+    let uri = classes::class_of(qnames, classes, first);
+    let local = classes::class_of(qnames, classes, first + 2);
     1025 * uri + local
 }
 
@@ -76,10 +63,10 @@ fn declares_at(
     ensures { λ r. ⌜ r ≡ declaresAt (now (doc .entry)) (now (names .entry)) (now (qnames .entry)) rows row ⌝ }
 {
     let first = 3 * (row - 1);
-    if class_of(qnames, classes, first) != 0 {
+    if classes::class_of(qnames, classes, first) != 0 {
         return false;
     }
-    if class_of(qnames, classes, first + 2) != 0 {
+    if classes::class_of(qnames, classes, first + 2) != 0 {
         return false;
     }
     let prefix = classes::cell(qnames, first + 1);

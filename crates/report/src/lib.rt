@@ -1,100 +1,160 @@
-// What the reading programs write: a line for the answer, then a line for each row. Tested, not proved: the contracts
-// keep the programs inside their tables.
-ghost use Prim.Native.Nat.{_*_, _≤_};
-ghost use lib.ListN.{length};
-use libc::STDOUT_FILENO;
+// What the reading program prints: a line for the answer, then a line for each row. It is made at the end of one array, from
+// the last line to the first, so that no number is moved.
+ghost use mathlib.Core.Path.{_≡_};
+ghost use mathlib.Core.List.{[], _∷_, _++_};
+ghost use Prim.Native.Nat.{_+_, _*_, _≤_, _<_};
+ghost use lib.ListN.{length, drop};
+ghost use Rattle.lists.specs.Lists.{part};
+ghost use Rattle.classes.specs.Tables.{nameRowsIn, qnameRowsIn, eventRowsIn};
+ghost use Rattle.lines.specs.Lines.{PutBefore};
+ghost use Rattle.report.specs.Report.{verdict, counts, answerLine, rowLine, tokenDigits, eventWord, nameLines, qnameLines, eventLines, rowLines, printed};
 use reader::Answer;
 
-fn say(word: &[u8], number: usize) {
-    io::write_all(STDOUT_FILENO, word);
-    io::print_decimal(STDOUT_FILENO, number as u64);
-}
+// ---- the first line
 
-fn wide(x: u32) -> usize {
-    x as usize
-}
-
-fn end_line() {
-    io::write_all(STDOUT_FILENO, b"\n");
-}
-
-// `accepted N names A qnames B events C version V`, or `refused C at N names ..`.
-pub fn write_answer(a: Answer) {
+// `accepted N` or `refused C at N`.
+fn put_verdict(text: &mut [u8], end: usize, a: Answer) -> usize
+    requires { ⌜ (42 ≤ end) × (end ≤ length (now text)) ⌝ }
+    ensures { λ r. ⌜ PutBefore (now (text .entry)) (now (text .exit)) end r (verdict a) ⌝ }
+{
     if a.number == 0 {
-        say(b"accepted ", a.place);
-    } else {
-        say(b"refused ", wide(a.number));
-        say(b" at ", a.place);
+        return lines::put_field(text, end, b"accepted ", a.place);
     }
-    say(b" names ", a.names);
-    say(b" qnames ", a.qnames);
-    say(b" events ", a.events);
-    say(b" version ", a.version);
-    end_line();
+    let at = lines::put_field(text, end, b" at ", a.place);
+    lines::put_field(text, at, b"refused ", a.number as usize)
 }
 
-// `name PLACE UNITS`
-fn write_names(names: &[u32], rows: usize) {
-    let mut i = 0;
-    while i < rows {
-        if names.len() / 2 <= i {
-            return;
-        }
-        say(b"name ", wide(names[2 * i]));
-        say(b" ", wide(names[2 * i + 1]));
-        end_line();
-        i += 1;
+// The row counts and the outer version.
+fn put_counts(
+    text: &mut [u8],
+    end: usize,
+    names: usize,
+    qnames: usize,
+    events: usize,
+    version: usize,
+) -> usize
+    requires { ⌜ (155 ≤ end) × (end ≤ length (now text)) ⌝ }
+    ensures { λ r. ⌜ PutBefore (now (text .entry)) (now (text .exit)) end r (counts names qnames events version) × (42 ≤ r) ⌝ }
+{
+    let after = lines::put_word(text, end, b"\n");
+    let before_version = lines::put_field(text, after, b" version ", version);
+    let before_events = lines::put_field(text, before_version, b" events ", events);
+    let before_qnames = lines::put_field(text, before_events, b" qnames ", qnames);
+    lines::put_field(text, before_qnames, b" names ", names)
+}
+
+// ---- rows
+
+// A line feed, and before it a space and a number for each of `count` numbers of a table, three at most.
+fn put_numbers(text: &mut [u8], end: usize, table: &[u32], from: usize, count: usize) -> usize
+    requires { ⌜ (from + count ≤ length (now table)) × (from ≤ 16384) × (count ≤ 3) × (1 + 11 * count ≤ end) × (end ≤ length (now text)) ⌝ }
+    ensures { λ r. ⌜ PutBefore (now (text .entry)) (now (text .exit)) end r (rowLine [] (part (now (table .entry)) from count)) × (end ≤ r + (1 + 11 * count)) ⌝ }
+{
+    let mut at = lines::put_word(text, end, b"\n");
+    let mut k = count;
+    while 0 < k {
+        k -= 1;
+        at = lines::put_field(text, at, b" ", classes::cell(table, from + k));
     }
+    at
 }
 
-// `qname URI PREFIX LOCAL`
-fn write_qnames(qnames: &[u32], rows: usize) {
-    let mut i = 0;
-    while i < rows {
-        if qnames.len() / 3 <= i {
-            return;
-        }
-        say(b"qname ", wide(qnames[3 * i]));
-        say(b" ", wide(qnames[3 * i + 1]));
-        say(b" ", wide(qnames[3 * i + 2]));
-        end_line();
-        i += 1;
+// A line for each of the first `rows` rows of a table of names.
+fn put_names(text: &mut [u8], end: usize, names: &[u32], rows: usize) -> usize
+    requires { ⌜ (2 * rows ≤ length (now names)) × (rows ≤ 1024) × (155 + 27 * rows ≤ end) × (end ≤ length (now text)) ⌝ }
+    ensures { λ r. ⌜ PutBefore (now (text .entry)) (now (text .exit)) end r (nameLines (nameRowsIn rows (now (names .entry)))) × (155 ≤ r) ⌝ }
+{
+    let mut at = end;
+    let mut k = rows;
+    while 0 < k {
+        k -= 1;
+        at = put_numbers(text, at, names, 2 * k, 2);
+        at = lines::put_word(text, at, b"name");
     }
+    at
 }
 
-fn digit(d: u32) -> u8 {
-    let low = (d % 16) as u8;
-    if low < 10 {
-        return 48 + low;
+// A line for each of the first `rows` rows of a table of qnames.
+fn put_qnames(text: &mut [u8], end: usize, qnames: &[u32], rows: usize) -> usize
+    requires { ⌜ (3 * rows ≤ length (now qnames)) × (rows ≤ 1024) × (27803 + 39 * rows ≤ end) × (end ≤ length (now text)) ⌝ }
+    ensures { λ r. ⌜ PutBefore (now (text .entry)) (now (text .exit)) end r (qnameLines (qnameRowsIn rows (now (qnames .entry)))) × (27803 ≤ r) ⌝ }
+{
+    let mut at = end;
+    let mut k = rows;
+    while 0 < k {
+        k -= 1;
+        at = put_numbers(text, at, qnames, 3 * k, 3);
+        at = lines::put_word(text, at, b"qname");
     }
-    55 + low
+    at
 }
 
-fn write_token(token: u32) {
-    let pair = [digit(token / 16), digit(token)];
-    io::write_all(STDOUT_FILENO, b"event ");
-    io::write_all(STDOUT_FILENO, &pair);
+// `event TT`.
+fn put_token(text: &mut [u8], end: usize, token: usize) -> usize
+    requires { ⌜ (8 ≤ end) × (end ≤ length (now text)) ⌝ }
+    ensures { λ r. ⌜ PutBefore (now (text .entry)) (now (text .exit)) end r (eventWord ++ tokenDigits token) × (end ≤ r + 8) ⌝ }
+{
+    let byte = [(token % 256) as u8];
+    let at = lines::put_hex(text, end, &byte);
+    lines::put_word(text, at, b"event ")
 }
 
-// `event TT PLACE A B`, TT in hexadecimal
-fn write_events(events: &[u32], rows: usize) {
-    let mut i = 0;
-    while i < rows {
-        if events.len() / 4 <= i {
-            return;
-        }
-        write_token(events[4 * i]);
-        say(b" ", wide(events[4 * i + 1]));
-        say(b" ", wide(events[4 * i + 2]));
-        say(b" ", wide(events[4 * i + 3]));
-        end_line();
-        i += 1;
+// A line for each of the first `rows` rows of a table of events.
+fn put_events(text: &mut [u8], end: usize, events: &[u32], rows: usize) -> usize
+    requires { ⌜ (4 * rows ≤ length (now events)) × (rows ≤ 4096) × (67739 + 42 * rows ≤ end) × (end ≤ length (now text)) ⌝ }
+    ensures { λ r. ⌜ PutBefore (now (text .entry)) (now (text .exit)) end r (eventLines (eventRowsIn rows (now (events .entry)))) × (67739 ≤ r) ⌝ }
+{
+    let mut at = end;
+    let mut k = rows;
+    while 0 < k {
+        k -= 1;
+        at = put_numbers(text, at, events, 4 * k + 1, 3);
+        at = put_token(text, at, classes::cell(events, 4 * k));
     }
+    at
 }
 
-// A line for each row of the three tables.
-pub fn write_rows(names: &[u32], qnames: &[u32], events: &[u32], a: Answer) {
-    write_names(names, a.names);
-    write_qnames(qnames, a.qnames);
-    write_events(events, a.events);
+// ---- the whole text
+
+// The first line, before place `end`.
+pub fn put_answer(text: &mut [u8], end: usize, a: Answer) -> usize
+    requires { ⌜ (155 ≤ end) × (end ≤ length (now text)) ⌝ }
+    ensures { λ r. ⌜ PutBefore (now (text .entry)) (now (text .exit)) end r (answerLine a) ⌝ }
+{
+    let at = put_counts(text, end, a.names, a.qnames, a.events, a.version);
+    put_verdict(text, at, a)
+}
+
+// A line for each row of the three tables, at the end of `text`, with room left for the first line.
+pub fn put_rows(
+    text: &mut [u8],
+    names: &[u32],
+    qnames: &[u32],
+    events: &[u32],
+    n: usize,
+    q: usize,
+    e: usize,
+) -> usize
+    requires { ⌜ (length (now text) ≡ 239771) × (n ≤ 1024) × (q ≤ 1024) × (e ≤ 4096)
+        × (2 * n ≤ length (now names)) × (3 * q ≤ length (now qnames)) × (4 * e ≤ length (now events)) ⌝ }
+    ensures { λ r. ⌜ PutBefore (now (text .entry)) (now (text .exit)) 239771 r
+        (rowLines (nameRowsIn n (now (names .entry))) (qnameRowsIn q (now (qnames .entry))) (eventRowsIn e (now (events .entry)))) × (155 ≤ r) ⌝ }
+{
+    let before_events = put_events(text, 239771, events, e);
+    let before_qnames = put_qnames(text, before_events, qnames, q);
+    put_names(text, before_qnames, names, n)
+}
+
+// Reads a document into tables at the full bounds, and puts what the program prints at the end of `text`; gives the place
+// where it begins. A line of a name has at most 27 bytes, of a qname 39, of an event 42, and the first line 155.
+pub fn print(doc: &[u8], text: &mut [u8]) -> usize
+    requires { ⌜ length (now text) ≡ 239771 ⌝ }
+    ensures { λ r. ⌜ (drop r (now (text .exit)) ≡ printed (now (doc .entry))) × (r ≤ 239771) ⌝ }
+{
+    let mut names = [0u32; 2048];
+    let mut qnames = [0u32; 3072];
+    let mut events = [0u32; 16384];
+    let a = reader::read(doc, &mut names, &mut qnames, &mut events);
+    let end = put_rows(text, &names, &qnames, &events, a.names, a.qnames, a.events);
+    put_answer(text, end, a)
 }

@@ -3,24 +3,33 @@
 use libc::STDERR_FILENO;
 use rewriter::Answer;
 
+// The longest line has 43 bytes.
 fn write_refusal(a: Answer) {
-    io::write_all(STDERR_FILENO, b"refused ");
-    io::print_decimal(STDERR_FILENO, a.number as u64);
-    io::write_all(STDERR_FILENO, b" at ");
-    io::print_decimal(STDERR_FILENO, a.place as u64);
-    io::write_all(STDERR_FILENO, b"\n");
+    let mut text = [0u8; 43];
+    let from = lines::put_line(
+        &mut text,
+        43,
+        b"refused ",
+        a.number as usize,
+        b" at ",
+        a.place,
+    );
+    io::write_all(STDERR_FILENO, &text[from..]);
 }
 
 // The form is the front of the output.
 fn write_front(out: &[u8], size: usize) {
     if size <= out.len() {
-        io::write_all(libc::STDOUT_FILENO, &out[..size]);
+        console::write_output(&out[..size]);
     }
 }
 
 fn main() {
     let mut doc = [0u8; 65537];
     let size = io::read_full(libc::STDIN_FILENO, &mut doc);
+    if !console::input_whole(size, 65537) {
+        return;
+    }
     let mut names = [0u32; 2048];
     let mut qnames = [0u32; 3072];
     let mut events = [0u32; 16384];

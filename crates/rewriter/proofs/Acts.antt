@@ -23,8 +23,8 @@ use Rattle.naming.proofs.Layers.{Layers, layers-agree, marks-none, cleared-agre
 use Rattle.rewriter.specs.declared.Item.{Item}
 use Rattle.rewriter.specs.declared.Item.the-variants.{Byte, Texted, Pi, Refer, Valued, Nest, Leave}
 use Rattle.rewriter.specs.Walk.{Tables, piBytes, referBytes, bytesFor, NamesKept, QnamesKept, depthAfter}
-use Rattle.rewriter.proofs.Items as items
-use Rattle.rewriter.proofs.Items.{Meets}
+use Rattle.rewriter.proofs.ItemLaws as items
+use Rattle.rewriter.proofs.ItemLaws.{Meets}
 
 -- what the classes say of the rows
 pub record Said (t : Tables) (N : List NameRow) (Q : List QnameRow) : Type 0 where
@@ -223,7 +223,7 @@ acts t N Q said slots qslots s depth kept room (items.instruction {row = row} {s
     act-pi t N Q said slots qslots s depth kept room row start slots′ qslots′ l a b
 acts t N Q said slots qslots s depth kept room (items.reference {code = code} {k = k} {q = q} l i h) up {slots′} {qslots′} a b =
     act-refer t N Q said slots qslots s depth kept room code k q slots′ qslots′ i a b
-acts t N Q said slots qslots s depth kept room (items.value l i h) up {slots′} {qslots′} a b =
+acts t N Q said slots qslots s depth kept room (items.value l i) up {slots′} {qslots′} a b =
     record { bytes = refl; kept = act-plain t N Q said slots qslots s depth kept room slots′ qslots′ a b }
 acts t N Q said slots qslots s depth kept room (items.nested l) up {slots′} {qslots′} a b =
     record { bytes = refl; kept = act-nest t N Q said slots qslots s depth kept room slots′ qslots′ a b }
@@ -240,6 +240,6 @@ bytes-of t N Q said slots qslots s depth kept room (items.instruction {row = row
     pi-bytes t N Q said slots qslots s depth kept room (nameText (t .doc) N row) (classAt (t .classes) row) start (said .has row l) (said .class-is row l)
 bytes-of t N Q said slots qslots s depth kept room (items.reference {code = code} {k = k} {q = q} l i h) =
     refer-bytes t N Q said slots qslots s depth kept room code k (classAt (t .qclasses) (suc k)) q i (said .qclass-is k i)
-bytes-of t N Q said slots qslots s depth kept room (items.value l i h) = refl
+bytes-of t N Q said slots qslots s depth kept room (items.value l i) = refl
 bytes-of t N Q said slots qslots s depth kept room (items.nested l) = refl
 bytes-of t N Q said slots qslots s depth kept room items.left = refl

@@ -1,7 +1,6 @@
 -- The ways out of the functions that write an item, and what they ask of those that they call. Assumes nothing.
 use Prim.Native.Nat.{ℕ, zero, suc, _+_, _-_, _*_, _≤_, _<_}
 use mathlib.Core.Path.{_≡_, refl, sym, _∙_, ap, subst}
-use mathlib.Core.Bool.{Bool, true, false, cond}
 use mathlib.Core.List.{List, [], _∷_, _++_}
 use native.Mathlib.Omega.{arith}
 use lib.ListN.{length, getD, set, length-append}
@@ -10,7 +9,6 @@ use Rattle.lists.proofs.Overlay.{part-length}
 use Rattle.token.specs.Tokens.{shapeOf}
 use Rattle.token.specs.declared.Shape.{Shape}
 use Rattle.number.specs.Number.{shortest}
-use Rattle.value.specs.Rules.{lawful}
 use Rattle.value.specs.Fields.{textAt, Lies}
 use Rattle.value.specs.declared.Text as texts
 use Rattle.value.specs.declared.Text.the-variants as text
@@ -32,15 +30,15 @@ byte-fits b m at x w i f = fits-next {b = b} {m = m} {a = x ∷ []} w (put-byte 
 
 -- a payload after its token
 module _ (doc : List ℕ) (token place size : ℕ) {shape : Shape} (s : shape ≡ shapeOf token) where
-  pub value-asks : (b m : List ℕ) (at : ℕ) → place + size ≤ length doc → length doc ≤ 65536 → at ≤ 1000000000000 → lawful (shapeOf token) (part doc place size) ≡ true
+  pub value-asks : (b m : List ℕ) (at : ℕ) → place + size ≤ length doc → length doc ≤ 65536 → at ≤ 1000000000000
       → m ≡ set b at token → Fits (length b) at (length (token ∷ (lengthOf (shapeOf token) (part doc place size) ++ part doc place size)))
-      → (place + size ≤ length doc) × (length doc ≤ 65536) × (at + 1 ≤ 1099511627776) × (lawful shape (part doc place size) ≡ true)
+      → (place + size ≤ length doc) × (length doc ≤ 65536) × (at + 1 ≤ 1099511627776)
       × Fits (length m) (at + 1) (length (lengthOf shape (part doc place size)) + size)
-  value-asks b m at inside short near l i f =
+  value-asks b m at inside short near i f =
       let g = byte-fits b m at token (lengthOf (shapeOf token) (part doc place size) ++ part doc place size) i f in
       let n : length (lengthOf (shapeOf token) (part doc place size) ++ part doc place size) ≡ length (lengthOf (shapeOf token) (part doc place size)) + size =
       rw (length-append, part-length doc place size inside) in
-      (inside, short, omega arith, rw s l, rw s (subst (λ (k : ℕ). Fits (length m) (at + 1) k) n g))
+      (inside, short, omega arith, rw s (subst (λ (k : ℕ). Fits (length m) (at + 1) k) n g))
 
   pub value-put : {b m e : List ℕ} {at r : ℕ} → m ≡ set b at token → Put m e (at + 1) r (lengthOf shape (part doc place size) ++ part doc place size)
       → Put b e at r (token ∷ (lengthOf (shapeOf token) (part doc place size) ++ part doc place size))

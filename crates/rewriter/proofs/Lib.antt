@@ -1,4 +1,4 @@
-pub mod Items
+pub mod ItemLaws
 pub mod Depth
 pub mod Acts
 pub mod Bytes

@@ -21,7 +21,7 @@ use Rattle.classes.proofs.Classes.{Known, texts-at, length-texts, length-classe
 use Rattle.naming.specs.Naming.{classAt, classText, partsAt, Texts}
 use Rattle.naming.proofs.Names.{Has, empty, among, Classed, Has3, partsOf}
 use Rattle.rewriter.specs.Walk.{Tables, Ready, Prepared}
-use Rattle.rewriter.proofs.Items.{Meets, item-meets, fits-low}
+use Rattle.rewriter.proofs.ItemLaws.{Meets, item-meets, fits-low}
 use Rattle.rewriter.proofs.Acts.{Said}
 use Rattle.rewriter.specs.Items.{itemOf}
 

@@ -33,8 +33,8 @@ use Rattle.rewriter.specs.declared.Item.{Item}
 use Rattle.rewriter.specs.declared.Item.the-variants.{Byte, Texted, Pi, Refer, Valued, Nest, Leave}
 use Rattle.rewriter.specs.Items.{itemOf}
 use Rattle.rewriter.specs.Walk.{Tables, before, piBytes, referBytes, bytesFor, NamesKept, QnamesKept, depthAfter, Turned, Ready, ItemFits}
-use Rattle.rewriter.proofs.Items as items
-use Rattle.rewriter.proofs.Items.{Meets}
+use Rattle.rewriter.proofs.ItemLaws as items
+use Rattle.rewriter.proofs.ItemLaws.{Meets}
 use Rattle.rewriter.proofs.Depth.{Deeper, docs, Next, next}
 use Rattle.rewriter.proofs.Acts.{Said, Kept, Acts, acts, bytes-of}
 
@@ -143,7 +143,7 @@ item-fits t rows qrows n m d a b (items.bare l k) h e = l
 item-fits t rows qrows n m d a b (items.written l i) h e = (l, i)
 item-fits t rows qrows n m d a b (items.instruction l x) h e = (omega arith, x)
 item-fits t rows qrows n m d a b (items.reference l i k) h e = (l, omega arith, omega arith)
-item-fits t rows qrows n m d a b (items.value l i k) h e = (l, i, k)
+item-fits t rows qrows n m d a b (items.value l i) h e = (l, i)
 item-fits t rows qrows n m d a b (items.nested l) h e = (l, let x = h .0 in omega arith)
 item-fits t rows qrows n m d a b items.left h e = let x = h .0 in omega arith
 

@@ -1,14 +1,12 @@
 -- What writing an item asks of the functions that it calls, and its ways out. Assumes nothing.
 use Prim.Native.Nat.{ℕ, zero, suc, _+_, _-_, _*_, _≤_, _<_}
 use mathlib.Core.Path.{_≡_, refl, sym, _∙_, ap, subst}
-use mathlib.Core.Bool.{Bool, true, false, cond}
 use mathlib.Core.List.{List, [], _∷_, _++_}
 use native.Mathlib.Omega.{arith}
 use lib.ListN.{length, getD}
 use Rattle.lists.specs.Lists.{part}
 use Rattle.token.specs.Tokens.{shapeOf}
 use Rattle.number.specs.Number.{shortest}
-use Rattle.value.specs.Rules.{lawful}
 use Rattle.form.specs.Canonical.{counted, lengthOf, headerOf}
 use Rattle.output.specs.Output.{Fits, Put}
 use Rattle.output.proofs.Laws.{fits-first}
@@ -127,11 +125,11 @@ module _ (t : Tables) (rows qrows : ℕ) (slots qslots out : List ℕ) (w : Spot
         rw e (record { put = x′; names-kept = y′; qnames-kept = z′ })
 
   pub value-asks : {token place size : ℕ} → item ≡ Valued token place size
-      → (place + size ≤ length (t .doc)) × (length (t .doc) ≤ 65536) × (w .at ≤ 1000000000000) × (lawful (shapeOf token) (part (t .doc) place size) ≡ true)
+      → (place + size ≤ length (t .doc)) × (length (t .doc) ≤ 65536) × (w .at ≤ 1000000000000)
       × Fits (length out) (w .at) (length (token ∷ (lengthOf (shapeOf token) (part (t .doc) place size) ++ part (t .doc) place size)))
   value-asks {token} {place} {size} e =
       let f = fits-as (Valued token place size) e in
-      (f .1, ready .texts .short, omega arith, f .2, room-as (Valued token place size) e)
+      (f .1, ready .texts .short, omega arith, room-as (Valued token place size) e)
 
   pub nest-asks : {version base : ℕ} → item ≡ Nest version → base ≡ 1025 * w .depth
       → (version < 256) × (w .at ≤ 1000000000000) × ((base + 1025) + 1025 ≤ 9225) × (length slots ≡ 9225) × (length qslots ≡ 9225)

@@ -2,14 +2,12 @@
 use Prim.Native.Nat.{ℕ, zero, suc, _+_, _-_, _*_, _≤_, _<_}
 use mathlib.Core.Path.{_≡_}
 use mathlib.Core.Logic.{_⊎_}
-use mathlib.Core.Bool.{true}
 use mathlib.Core.List.{List, [], _∷_, _++_, map}
 use mathlib.Core.Option.{some}
 use lib.ListN.{length, getD}
 use Rattle.lists.specs.Lists.{Front, part}
 use Rattle.token.specs.Tokens.{shapeOf}
 use Rattle.number.specs.Number.{shortest}
-use Rattle.value.specs.Rules.{lawful}
 use Rattle.value.specs.Fields.{textAt}
 use Rattle.value.specs.declared.Text.the-variants as text
 use Rattle.reader.specs.Rows.{event}
@@ -142,8 +140,7 @@ ItemFits t rows qrows depth (Byte value) = value < 256
 ItemFits t rows qrows depth (Texted token place units) = (token < 256) × (place + 2 * units ≤ length (t .doc))
 ItemFits t rows qrows depth (Pi row start) = (row ≤ rows) × TextThere (t .doc) start
 ItemFits t rows qrows depth (Refer token row) = (token < 256) × (1 ≤ row) × (row ≤ qrows)
-ItemFits t rows qrows depth (Valued token place size) =
-    (token < 256) × (place + size ≤ length (t .doc)) × (lawful (shapeOf token) (part (t .doc) place size) ≡ true)
+ItemFits t rows qrows depth (Valued token place size) = (token < 256) × (place + size ≤ length (t .doc))
 ItemFits t rows qrows depth (Nest version) = (version ≤ 2) × (depth < 8)
 ItemFits t rows qrows depth Leave = 1 ≤ depth
 

@@ -48,6 +48,22 @@ fn read_front(
     reader::read(doc, &mut names[..n], &mut qnames[..q], &mut events[..e])
 }
 
+// Writes the answer, and as many rows as it tells of and the tables hold.
+fn write_report(names: &[u32], qnames: &[u32], events: &[u32], a: Answer) {
+    let mut text = [0u8; 239771];
+    let end = report::put_rows(
+        &mut text,
+        names,
+        qnames,
+        events,
+        least(a.names, least(names.len() / 2, 1024)),
+        least(a.qnames, least(qnames.len() / 3, 1024)),
+        least(a.events, least(events.len() / 4, 4096)),
+    );
+    let from = report::put_answer(&mut text, end, a);
+    io::write_all(STDOUT_FILENO, &text[from..]);
+}
+
 // Reads into the front of three tables of marks, and writes what came out.
 fn read_into(doc: &[u8], n: usize, q: usize, e: usize) {
     let mut names = [MARK; 64];
@@ -62,8 +78,7 @@ fn read_into(doc: &[u8], n: usize, q: usize, e: usize) {
         least(q, 64),
         least(e, 512),
     );
-    report::write_answer(a);
-    report::write_rows(&names, &qnames, &events, a);
+    write_report(&names, &qnames, &events, a);
     report_change(&names, 2 * least(a.names, 1024));
     report_change(&qnames, 3 * least(a.qnames, 1024));
     report_change(&events, 4 * least(a.events, 4096));

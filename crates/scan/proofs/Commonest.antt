@@ -32,7 +32,7 @@ use Rattle.scan.specs.declared.Mode.the-variants.{Content, Tag, First, P
 use Rattle.scan.specs.declared.View.{View}
 use Rattle.scan.specs.declared.Room.{Room}
 use Rattle.scan.specs.declared.Step.the-variants as step
-use Rattle.scan.proofs.Modes.{content-is}
+use Rattle.scan.proofs.ModeLaws.{content-is}
 use Rattle.scan.proofs.Steps.{due-on, open-on, value-on, token-on, at-token}
 
 -- a number of one byte

@@ -1,4 +1,4 @@
-pub mod Modes
+pub mod ModeLaws
 pub mod Steps
 pub mod Fine
 pub mod Valued

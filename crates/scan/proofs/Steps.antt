@@ -38,7 +38,7 @@ use Rattle.scan.specs.declared.View.{View}
 use Rattle.scan.specs.declared.Room.{Room}
 use Rattle.scan.specs.declared.Step.{Step}
 use Rattle.scan.specs.declared.Step.the-variants as step
-use Rattle.scan.proofs.Modes.{content-is, declares-is}
+use Rattle.scan.proofs.ModeLaws.{content-is, declares-is}
 
 module _ (v : View) (room : Room) where
   pub due-on : (on : Step) → v .events < room .events → on ≡ eventDue v room on

@@ -5,7 +5,6 @@ use mathlib.Core.List.{List, []}
 use native.Mathlib.Omega.{arith}
 use native.Mathlib.Nat.{zero-add, sub-zero}
 use lib.ListN.{length, getD}
-use lib.Seq.{ext-getD}
 use Rattle.meaning.specs.Meaning.{same}
 use Rattle.meaning.specs.Pairs.{pairsOf}
 use Rattle.twins.specs.Parts.{partAt, partsOf, Next, Linked}
@@ -19,15 +18,6 @@ parts-long syms starts n = length-values (partAt syms starts) n 0
 pub parts-at : (syms starts : List ℕ) (n k : ℕ) → k < n → getD (partsOf syms starts n) k [] ≡ partAt syms starts k
 unfolding partsOf
 parts-at syms starts n k h = values-at (partAt syms starts) [] n 0 k h ∙ ap (partAt syms starts) (zero-add k)
-
--- a list of parts is known from each part
-pub parts-are : (syms starts : List ℕ) (n : ℕ) (ms : List (List ℕ)) → n ≡ length ms
-    → ((k : ℕ) → k < n → partAt syms starts k ≡ getD ms k []) → partsOf syms starts n ≡ ms
-parts-are syms starts n ms e f =
-    ext-getD [] (partsOf syms starts n) ms (parts-long syms starts n ∙ e) (λ k h. each k (rw (parts-long syms starts n) at h))
-  where
-    each : (k : ℕ) → k < n → getD (partsOf syms starts n) k [] ≡ getD ms k []
-    each k h = parts-at syms starts n k h ∙ f k h
 
 pub pairs-all : (syms starts : List ℕ) (n : ℕ) → pairsAfter (partAt syms starts) n 0 ≡ pairsOf same (partsOf syms starts n)
 unfolding partsOf pairsOf

@@ -1,15 +1,17 @@
--- What each way out of a field's function says of the definition; a field lies inside the document. Assumes nothing.
-use Prim.Native.Nat.{ℕ, zero, suc, _+_, _-_, _*_, _/_, _≤_, _<_}
+-- What each way out of a field's function says of the definition; a field lies inside the document, and a payload keeps its
+-- shape's rule. Assumes nothing.
+use Prim.Native.Nat.{ℕ, _+_, _-_, _*_, _≤_, _<_}
 use mathlib.Core.Path.{_≡_, refl, sym, _∙_, ap, subst}
 use mathlib.Core.Bool.{Bool, true, false, cond}
 use mathlib.Core.List.{List}
 use native.Mathlib.Omega.{arith}
-use lib.Dec.{ltb, leb}
-use lib.ListN.{length, getD, take, drop}
-use borrow.Author.Tests.{ltb-true, leb-true}
+use lib.Dec.{ltb, leb, eqb}
+use lib.ListN.{length, getD}
+use borrow.Author.Tests.{leb-true, eqb-true}
 use Rattle.lists.specs.Lists.{part}
 use Rattle.lists.proofs.Tests.{tests, cond-if}
 use Rattle.token.specs.Answers.{missing, badValue, largest}
+use Rattle.token.specs.Tokens.{shapeOf}
 use Rattle.token.specs.declared.Shape.{Shape}
 use Rattle.token.specs.declared.Shape.the-variants.{Nothing, Fixed, Text, Blob, CodePage, Decimal, Qname, Stamp, Date, Time, ZonedTime}
 use Rattle.number.specs.Number.{numberAt, Within}
@@ -173,3 +175,34 @@ field-inside shape doc at = go (extentAt shape doc at) (extent-inside shape doc 
     go (Payload place size) h = cond-if (Inside (length doc) at) (lawful shape (part doc place size)) _ _ (λ t. h) (λ t. tt)
     go (Reference number next) h = h
     go (Refused number place) h = h
+
+-- ---- payloads that were found
+
+ruled-lawful : (shape : Shape) (doc : List ℕ) (at : ℕ) (f : Field) {place size : ℕ} → ruled shape doc at f ≡ Payload place size → lawful shape (part doc place size) ≡ true
+ruled-lawful shape doc at (Payload p n) {place} {size} e = go (lawful shape (part doc p n)) refl e
+  where
+    go : (b : Bool) → lawful shape (part doc p n) ≡ b → cond b (Payload p n) (Refused badValue at) ≡ Payload place size → lawful shape (part doc place size) ≡ true
+    go true h e = let i : p ≡ place = cc in let j : n ≡ size = cc in rw (← i, ← j) h
+    go false h e = absurd (let z : _≡_ {A = ℕ} 0 1 = cc in let q : ⊥ = omega arith in q)
+ruled-lawful shape doc at (Reference number next) e = absurd (let z : _≡_ {A = ℕ} 0 1 = cc in let q : ⊥ = omega arith in q)
+ruled-lawful shape doc at (Refused number p) e = absurd (let z : _≡_ {A = ℕ} 0 1 = cc in let q : ⊥ = omega arith in q)
+
+-- a payload keeps the rule of its token's shape
+pub payload-lawful : (shape : Shape) (doc : List ℕ) (at : ℕ) {place size : ℕ} → fieldAt shape doc at ≡ Payload place size → lawful shape (part doc place size) ≡ true
+unfolding fieldAt
+payload-lawful shape doc at e = ruled-lawful shape doc at (extentAt shape doc at) e
+
+-- no lawful payload has the token that refers to a qname
+pub not-qname : (code : ℕ) (p : List ℕ) → lawful (shapeOf code) p ≡ true → eqb code 0x8C ≡ false
+unfolding lawful shapeOf
+not-qname code p h = go (eqb code 0x8C) refl
+  where
+    go : (b : Bool) → eqb code 0x8C ≡ b → eqb code 0x8C ≡ false
+    go true e =
+        absurd
+        (let k : code ≡ 0x8C = eqb-true code 0x8C e in
+        let i : lawful (shapeOf 0x8C) p ≡ true = rw k at h in
+        let z : _≡_ {A = ℕ} 0 1 = cc in
+        let q : ⊥ = omega arith in
+        q)
+    go false e = e

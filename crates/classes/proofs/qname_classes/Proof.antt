@@ -1,21 +1,24 @@
--- `classes::qname_classes` meets its contract. The invariant: the keys and the classes of the rows passed are stored. The
--- measure: the rows that are left. Assumes nothing.
+-- `classes::qname_classes` meets its contract. The invariant is `Keyed`: the keys of the rows passed are stored, and the rows are
+-- in their slots and have their classes. The measure: the rows that are left. Assumes nothing.
 use borrow.Author.Needs.{needs}
-use Prim.Native.Nat.{ℕ, _-_}
+use Prim.Native.Nat.{ℕ, _-_, _%_}
 use native.Mathlib.Omega.{arith}
-use lib.ListN.{length-replicate}
-use Rattle.classes.proofs.Qnames.{Keyed, keyed-none, keyed-next, keyed-all, keyables}
+use lib.ListN.{length-replicate, getD-replicate}
+use Rattle.classes.proofs.Qnames.{Keyed, keyed-none, keyed-next, keyed-all, keyables, searched}
 use Rattle.classes.proofs.qname_classes.Statement.{statement}
 use Rattle.classes.proofs.qname_classes.Tie as tie
 
 abbrev Inv-loop : tie.InvT-loop
-Inv-loop doc names rows qnames count classes qclasses₀ keys₀ r₀ qclasses keys r = Keyed doc names rows qnames count classes keys qclasses r
+Inv-loop doc names rows qnames count classes qclasses₀ slots₀ chain₀ keys₀ r₀ qclasses slots chain keys r =
+    Keyed doc names rows qnames count classes qclasses slots chain keys r
 
 abbrev μ-loop : tie.MeasureT-loop
-μ-loop doc names rows qnames count classes qclasses₀ keys₀ r₀ qclasses keys r = count - r
+μ-loop doc names rows qnames count classes qclasses₀ slots₀ chain₀ keys₀ r₀ qclasses slots chain keys r = count - r
 
 loop-holds : tie.Need-loop-holds Inv-loop μ-loop
-loop-holds c = keyed-none _ _ _ _ _ _ _ _ (length-replicate {A = ℕ} 1024 0) (c .before .before .before .pre .5)
+loop-holds c =
+    keyed-none _ _ _ _ _ _ _ _ _ _ (c .before .before .before .pre .5) (length-replicate {A = ℕ} 2039 1024) (length-replicate {A = ℕ} 1024 1)
+    (length-replicate {A = ℕ} 1024 1) (λ b h. getD-replicate 2039 b 1024 0 h)
 
 key-of-requires : tie.Need-key-of-requires Inv-loop μ-loop
 key-of-requires c κs =
@@ -33,14 +36,42 @@ mul-keys c = search needs
 array-write-keys : tie.Need-array-write-keys Inv-loop μ-loop
 array-write-keys c = search needs
 
-first-key-requires : tie.Need-first-key-requires Inv-loop μ-loop
-first-key-requires c κs = search needs
+cast-s : tie.Need-cast-s Inv-loop μ-loop
+cast-s c = search needs
+
+mul-first : tie.Need-mul-first Inv-loop μ-loop
+mul-first c = search needs
+
+array-read-first : tie.Need-array-read-first Inv-loop μ-loop
+array-read-first c = search needs
+
+cast-first : tie.Need-cast-first Inv-loop μ-loop
+cast-first c = omega (arith, c .before .before .loop .inv .slotted .heads (c .key-of .result % 2039) (omega arith) .within)
+
+find-key-requires : tie.Need-find-key-requires Inv-loop μ-loop
+find-key-requires c κs =
+    let turn = c .before .before .before .before in
+    let p = turn .before .before .before .before .pre in
+    let l = c .before .before .before .loop-test .taken in
+    searched _ _ _ _ _ _ _ _ _ _ _ _ (turn .loop .inv) (omega (arith, p .2, l)) (c .before .before .key-of .ensures)
+
+cast-class-or : tie.Need-cast-class-or Inv-loop μ-loop
+cast-class-or c = search needs
+
+add-class-or : tie.Need-add-class-or Inv-loop μ-loop
+add-class-or c = search needs
+
+class-or-requires : tie.Need-class-or-requires Inv-loop μ-loop
+class-or-requires c κs = search needs
 
 mul-qclasses : tie.Need-mul-qclasses Inv-loop μ-loop
 mul-qclasses c = search needs
 
 element-write-qclasses : tie.Need-element-write-qclasses Inv-loop μ-loop
 element-write-qclasses c = search needs
+
+put-row-requires : tie.Need-put-row-requires Inv-loop μ-loop
+put-row-requires c κs = search needs
 
 add-r : tie.Need-add-r Inv-loop μ-loop
 add-r c = search needs
@@ -50,13 +81,15 @@ loop-less c = search needs
 
 loop-again : tie.Need-loop-again Inv-loop μ-loop
 loop-again c =
-    let turn = c .before .before .before .before in
-    let start = turn .before .before .before .before in
-    keyed-next _ _ _ _ _ _ (start .pre .0) (start .pre .6) (start .pre .7) _ _ _ _ _ (turn .loop .inv) (c .before .before .before .loop-test .taken)
-    (start .pre .2) (c .before .before .key-of .ensures) (c .first-key .ensures)
+    let found = c .before .before .before .before .before in
+    let key = found .before .before .before in
+    let turn = key .before .before in
+    let p = turn .before .before .before .before .pre in
+    keyed-next _ _ _ _ _ _ (p .0) (p .6) (p .7) _ _ _ _ _ _ _ _ _ _ (turn .loop .inv) (key .before .loop-test .taken) (p .2) (key .key-of .ensures)
+    (found .find-key .ensures) (c .before .before .before .class-or .ensures) (c .put-row .ensures)
 
 returns : tie.Need-returns Inv-loop μ-loop
-returns c = keyed-all _ _ _ _ _ _ _ _ _ (c .before .loop .inv) (c .loop-test .left) (c .before .before .before .before .before .pre .2)
+returns c = keyed-all _ _ _ _ _ _ _ _ _ _ _ (c .before .loop .inv) (c .loop-test .left) (c .before .before .before .before .before .pre .2)
 
 pub qname-classes-spec : {M : Type 1} → statement M
 qname-classes-spec =
@@ -68,9 +101,17 @@ qname-classes-spec =
     key-of-requires
     mul-keys
     array-write-keys
-    first-key-requires
+    cast-s
+    mul-first
+    array-read-first
+    cast-first
+    find-key-requires
+    cast-class-or
+    add-class-or
+    class-or-requires
     mul-qclasses
     element-write-qclasses
+    put-row-requires
     add-r
     loop-less
     loop-again

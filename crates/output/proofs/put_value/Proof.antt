@@ -12,19 +12,19 @@ put-counted-requires : tie.Need-put-counted-requires
 put-counted-requires c κs =
     let s = c .before .before .before .before .before in
     let e = of-text (s .args .shape) _ _ (s .args .size) (s .pre .0) (c .before .before .match .keys1) in
-    (s .pre .0, s .pre .1, s .pre .2, omega arith, value-fits _ e (s .pre .4))
+    (s .pre .0, s .pre .1, s .pre .2, omega arith, value-fits _ e (s .pre .3))
 
 put-counted-requires-2 : tie.Need-put-counted-requires-2
 put-counted-requires-2 c κs =
     let s = c .before .before .before .before in
     let e = of-blob (s .args .shape) _ _ (s .args .size) (s .pre .0) (c .before .match .keys2) in
-    (s .pre .0, s .pre .1, s .pre .2, omega arith, value-fits _ e (s .pre .4))
+    (s .pre .0, s .pre .1, s .pre .2, omega arith, value-fits _ e (s .pre .3))
 
 put-part-requires : tie.Need-put-part-requires
 put-part-requires c κs =
     let s = c .before .before .before .before in
     let e = of-others (s .args .shape) _ _ (s .args .size) (s .pre .0) (c .before .match .keys3) in
-    (s .pre .0, s .pre .1, s .pre .2, value-fits-bare _ e (s .pre .4))
+    (s .pre .0, s .pre .1, s .pre .2, value-fits-bare _ e (s .pre .3))
 
 same-length : tie.Need-same-length
 same-length c = search needs

@@ -1,9 +1,16 @@
 -- `text::unit` meets its contract: each arm by the law of its plan. Assumes nothing.
+use Prim.Native.Nat.{_+_, _*_, _<_}
+use mathlib.Core.Path.{_≡_}
+use lib.ListN.{length}
 use borrow.Author.Needs.{needs}
 use Rattle.text.proofs.UnitAt.{short-base64, unit-on, none-inside, payload-inside, payload-unit, hex-inside, base64-inside, number-inside, number-unit, boolean-inside, boolean-unit}
 use native.Mathlib.Omega.{arith}
 use Rattle.text.proofs.unit.Statement.{statement}
 use Rattle.text.proofs.unit.Tie as tie
+
+-- a unit's two bytes among those that `load` wrote
+abbrev There : tie.Start → Type 0
+There s = (2 * s .args .at + 2 * s .args .k + 1 < length (s .args .small .now)) × (length (s .args .small .now) ≡ 82)
 
 enum-told : tie.Need-enum-told
 enum-told c = search needs
@@ -25,60 +32,42 @@ unit-of-requires c κs =
 enum-told-3 : tie.Need-enum-told-3
 enum-told-3 c = search needs
 
-mul-unit-of-2 : tie.Need-mul-unit-of-2
-mul-unit-of-2 c =
+number-there : (c : tie.After-unit-of-arg) → There (c .before .before .before .before)
+number-there c =
     let s = c .before .before .before .before in
-    let n = s .pre .2 .long in
-    let q = number-inside (s .args .payload .now) (s .args .k) (s .pre .3) (s .args .small .now) (s .args .at) (s .pre .2) (c .before .enum-told3 .given .1) in
-    omega arith
+    (number-inside (s .args .payload .now) (s .args .k) (s .pre .3) (s .args .small .now) (s .args .at) (s .pre .2) (c .before .enum-told3 .given .1), s .pre .2 .long)
+
+mul-unit-of-2 : tie.Need-mul-unit-of-2
+mul-unit-of-2 c = omega (arith, number-there c)
 
 mul-unit-of-3 : tie.Need-mul-unit-of-3
-mul-unit-of-3 c =
-    let s = c .before .before .before .before in
-    let n = s .pre .2 .long in
-    let q = number-inside (s .args .payload .now) (s .args .k) (s .pre .3) (s .args .small .now) (s .args .at) (s .pre .2) (c .before .enum-told3 .given .1) in
-    omega arith
+mul-unit-of-3 c = omega (arith, number-there c)
 
 add-unit-of : tie.Need-add-unit-of
-add-unit-of c =
-    let s = c .before .before .before .before in
-    let n = s .pre .2 .long in
-    let q = number-inside (s .args .payload .now) (s .args .k) (s .pre .3) (s .args .small .now) (s .args .at) (s .pre .2) (c .before .enum-told3 .given .1) in
-    omega arith
+add-unit-of c = omega (arith, number-there c)
 
 unit-of-requires-2 : tie.Need-unit-of-requires-2
-unit-of-requires-2 c κs =
-    let s = c .before .before .before .before in
-    number-inside (s .args .payload .now) (s .args .k) (s .pre .3) (s .args .small .now) (s .args .at) (s .pre .2) (c .before .enum-told3 .given .1)
+unit-of-requires-2 c κs = omega (arith, number-there c)
 
 enum-told-4 : tie.Need-enum-told-4
 enum-told-4 c = search needs
 
-mul-unit-of-4 : tie.Need-mul-unit-of-4
-mul-unit-of-4 c =
+boolean-there : (c : tie.After-unit-of-arg2) → There (c .before .before .before .before)
+boolean-there c =
     let s = c .before .before .before .before in
-    let n = s .pre .2 .long in
-    let q = boolean-inside (s .args .payload .now) (s .args .k) (s .pre .3) (s .args .small .now) (s .args .at) (s .pre .2) (c .before .enum-told4 .given .1) in
-    omega arith
+    (boolean-inside (s .args .payload .now) (s .args .k) (s .pre .3) (s .args .small .now) (s .args .at) (s .pre .2) (c .before .enum-told4 .given .1), s .pre .2 .long)
+
+mul-unit-of-4 : tie.Need-mul-unit-of-4
+mul-unit-of-4 c = omega (arith, boolean-there c)
 
 mul-unit-of-5 : tie.Need-mul-unit-of-5
-mul-unit-of-5 c =
-    let s = c .before .before .before .before in
-    let n = s .pre .2 .long in
-    let q = boolean-inside (s .args .payload .now) (s .args .k) (s .pre .3) (s .args .small .now) (s .args .at) (s .pre .2) (c .before .enum-told4 .given .1) in
-    omega arith
+mul-unit-of-5 c = omega (arith, boolean-there c)
 
 add-unit-of-2 : tie.Need-add-unit-of-2
-add-unit-of-2 c =
-    let s = c .before .before .before .before in
-    let n = s .pre .2 .long in
-    let q = boolean-inside (s .args .payload .now) (s .args .k) (s .pre .3) (s .args .small .now) (s .args .at) (s .pre .2) (c .before .enum-told4 .given .1) in
-    omega arith
+add-unit-of-2 c = omega (arith, boolean-there c)
 
 unit-of-requires-3 : tie.Need-unit-of-requires-3
-unit-of-requires-3 c κs =
-    let s = c .before .before .before .before in
-    boolean-inside (s .args .payload .now) (s .args .k) (s .pre .3) (s .args .small .now) (s .args .at) (s .pre .2) (c .before .enum-told4 .given .1)
+unit-of-requires-3 c κs = omega (arith, boolean-there c)
 
 enum-told-5 : tie.Need-enum-told-5
 enum-told-5 c = search needs

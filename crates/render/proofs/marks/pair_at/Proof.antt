@@ -21,7 +21,7 @@ class-of-requires-2 : tie.Need-class-of-requires-2
 class-of-requires-2 c κs = (omega (arith, c .before .before .pre .from, c .before .before .pre .long), c .before .before .pre .local-key)
 
 mul-result : tie.Need-mul-result
-mul-result c = omega (arith, c .before .class-of .ensures .1)
+mul-result c = omega (arith, c .before .class-of .ensures .1, c .class-of2 .ensures .1)
 
 add-result : tie.Need-add-result
 add-result c = omega (arith, c .before .class-of .ensures .1, c .class-of2 .ensures .1)

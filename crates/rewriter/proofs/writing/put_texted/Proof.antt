@@ -1,0 +1,28 @@
+-- `rewriter::writing::put_texted` meets its contract. Assumes nothing.
+use Rattle.rewriter.proofs.Bytes.{byte-then, byte-fits}
+use native.Mathlib.Omega.{arith}
+use Prim.Native.Nat.{_*_}
+use Rattle.lists.specs.Lists.{part}
+use Rattle.form.specs.Canonical.{counted}
+use borrow.Author.Needs.{needs}
+use Rattle.rewriter.proofs.writing.put_texted.Statement.{statement}
+use Rattle.rewriter.proofs.writing.put_texted.Tie as tie
+
+put-requires : tie.Need-put-requires
+put-requires c κs = search needs
+
+add-put-text : tie.Need-add-put-text
+add-put-text c = search needs
+
+put-text-requires : tie.Need-put-text-requires
+put-text-requires c κs = let a = c .before .before .before .before .before .before .before .args in let p = c .before .before .before .before .before .before .before .pre in (p .0, p .1, omega (arith, p .2), byte-fits (a .out .now) _ (a .at) (a .token) (counted (part (a .doc .now) (a .place) (2 * a .units))) (c .before .before .before .put .ensures) (p .3))
+
+same-length : tie.Need-same-length
+same-length c = search needs
+
+returns : tie.Need-returns
+returns c = byte-then (c .before .before .before .before .before .before .put .ensures) (c .before .before .put-text .ensures)
+
+pub put-texted-spec : {M : Type 1} → statement M
+put-texted-spec =
+    tie.close (tie.spec put-requires add-put-text put-text-requires same-length returns)

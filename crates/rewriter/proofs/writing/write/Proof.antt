@@ -1,0 +1,157 @@
+-- `rewriter::writing::write` meets its contract. Assumes nothing.
+use Rattle.rewriter.proofs.Writes.{byte-asks, text-asks, target-asks, pi-asks, row-asks, qclass-asks, row-from, refer-asks, wrote-refer, value-asks, nest-asks, wrote-byte, wrote-text, wrote-pi, wrote-value, wrote-nest, wrote-leave}
+use native.Mathlib.Omega.{arith}
+use Rattle.rewriter.specs.Walk.{tables}
+use mathlib.Core.Path.{refl}
+use borrow.Author.Needs.{needs}
+use Rattle.rewriter.proofs.writing.write.Statement.{statement}
+use Rattle.rewriter.proofs.writing.write.Tie as tie
+
+mul-base : tie.Need-mul-base
+mul-base c = search needs
+
+enum-known-item : tie.Need-enum-known-item
+enum-known-item c = search needs
+
+cast-put-byte : tie.Need-cast-put-byte
+cast-put-byte c = let a = c .before .before .before .before .before .before .before .before .before .args in let p = c .before .before .before .before .before .before .before .before .before .pre in let h = byte-asks (tables (a .doc .now) (a .names .now) (a .qnames .now) (a .classes .now) (a .qclasses .now)) (a .rows) (a .qrows) (a .slots .now) (a .qslots .now) (a .out .now) (a .w) (a .item) (p .1) (p .2) (p .3) (p .4) (p .5) (p .6) (p .7) (c .before .before .item .given .1) in omega arith
+
+put-byte-requires : tie.Need-put-byte-requires
+put-byte-requires c κs = search needs
+
+enum-known-item-2 : tie.Need-enum-known-item-2
+enum-known-item-2 c = search needs
+
+put-texted-requires : tie.Need-put-texted-requires
+put-texted-requires c κs = let a = c .before .before .before .before .before .before .before .before .before .args in let p = c .before .before .before .before .before .before .before .before .before .pre in text-asks (tables (a .doc .now) (a .names .now) (a .qnames .now) (a .classes .now) (a .qclasses .now)) (a .rows) (a .qrows) (a .slots .now) (a .qslots .now) (a .out .now) (a .w) (a .item) (p .1) (p .2) (p .3) (p .4) (p .5) (p .6) (p .7) (c .before .before .item2 .given .1)
+
+enum-known-item-3 : tie.Need-enum-known-item-3
+enum-known-item-3 c = search needs
+
+class-at-requires : tie.Need-class-at-requires
+class-at-requires c κs = let a = c .before .before .before .before .before .before .before .before .args in let p = c .before .before .before .before .before .before .before .before .pre in target-asks (tables (a .doc .now) (a .names .now) (a .qnames .now) (a .classes .now) (a .qclasses .now)) (a .rows) (a .qrows) (a .slots .now) (a .qslots .now) (a .out .now) (a .w) (a .item) (p .1) (p .2) (p .3) (p .4) (p .5) (p .6) (p .7) (c .before .item3 .given .1)
+
+put-pi-requires : tie.Need-put-pi-requires
+put-pi-requires c κs = let a = c .before .before .before .before .before .before .before .before .before .before .before .args in let p = c .before .before .before .before .before .before .before .before .before .before .before .pre in pi-asks (tables (a .doc .now) (a .names .now) (a .qnames .now) (a .classes .now) (a .qclasses .now)) (a .rows) (a .qrows) (a .slots .now) (a .qslots .now) (a .out .now) (a .w) (a .item) (p .1) (p .2) (p .3) (p .4) (p .5) (p .6) (p .7) (c .before .before .before .before .item3 .given .1) (c .before .before .class-at .ensures) refl
+
+enum-known-item-4 : tie.Need-enum-known-item-4
+enum-known-item-4 c = search needs
+
+sub-parts-at : tie.Need-sub-parts-at
+sub-parts-at c = let a = c .before .before .before .before .before .before .before .before .args in let p = c .before .before .before .before .before .before .before .before .pre in let h = row-from (tables (a .doc .now) (a .names .now) (a .qnames .now) (a .classes .now) (a .qclasses .now)) (a .rows) (a .qrows) (a .slots .now) (a .qslots .now) (a .out .now) (a .w) (a .item) (p .1) (p .2) (p .3) (p .4) (p .5) (p .6) (p .7) (c .before .item4 .given .1) in omega arith
+
+parts-at-requires : tie.Need-parts-at-requires
+parts-at-requires c κs = let a = c .before .before .before .before .before .before .before .before .args in let p = c .before .before .before .before .before .before .before .before .pre in row-asks (tables (a .doc .now) (a .names .now) (a .qnames .now) (a .classes .now) (a .qclasses .now)) (a .rows) (a .qrows) (a .slots .now) (a .qslots .now) (a .out .now) (a .w) (a .item) (p .1) (p .2) (p .3) (p .4) (p .5) (p .6) (p .7) (c .before .item4 .given .1)
+
+class-at-requires-2 : tie.Need-class-at-requires-2
+class-at-requires-2 c κs = let a = c .before .before .before .before .before .before .before .before .before .args in let p = c .before .before .before .before .before .before .before .before .before .pre in qclass-asks (tables (a .doc .now) (a .names .now) (a .qnames .now) (a .classes .now) (a .qclasses .now)) (a .rows) (a .qrows) (a .slots .now) (a .qslots .now) (a .out .now) (a .w) (a .item) (p .1) (p .2) (p .3) (p .4) (p .5) (p .6) (p .7) (c .before .before .item4 .given .1)
+
+refer-requires : tie.Need-refer-requires
+refer-requires c κs = let a = c .before .before .before .before .before .before .before .before .before .before .before .before .before .args in let p = c .before .before .before .before .before .before .before .before .before .before .before .before .before .pre in refer-asks (tables (a .doc .now) (a .names .now) (a .qnames .now) (a .classes .now) (a .qclasses .now)) (a .rows) (a .qrows) (a .slots .now) (a .qslots .now) (a .out .now) (a .w) (a .item) (p .1) (p .2) (p .3) (p .4) (p .5) (p .6) (p .7) (c .before .before .before .before .before .before .item4 .given .1) (c .before .before .before .before .parts-at .ensures) (c .before .before .before .class-at2 .ensures) refl
+
+enum-known-item-5 : tie.Need-enum-known-item-5
+enum-known-item-5 c = search needs
+
+put-valued-requires : tie.Need-put-valued-requires
+put-valued-requires c κs = let a = c .before .before .before .before .before .before .before .before .before .args in let p = c .before .before .before .before .before .before .before .before .before .pre in let v = value-asks (tables (a .doc .now) (a .names .now) (a .qnames .now) (a .classes .now) (a .qclasses .now)) (a .rows) (a .qrows) (a .slots .now) (a .qslots .now) (a .out .now) (a .w) (a .item) (p .1) (p .2) (p .3) (p .4) (p .5) (p .6) (p .7) (c .before .before .item5 .given .1) in (p .0, v .0, v .1, v .2, v .3)
+
+enum-known-item-6 : tie.Need-enum-known-item-6
+enum-known-item-6 c = search needs
+
+add-put-nest : tie.Need-add-put-nest
+add-put-nest c = let a = c .before .before .before .before .before .before .before .before .before .before .before .args in let p = c .before .before .before .before .before .before .before .before .before .before .before .pre in let v = nest-asks (tables (a .doc .now) (a .names .now) (a .qnames .now) (a .classes .now) (a .qclasses .now)) (a .rows) (a .qrows) (a .slots .now) (a .qslots .now) (a .out .now) (a .w) (a .item) (p .1) (p .2) (p .3) (p .4) (p .5) (p .6) (p .7) (c .before .before .before .before .item6 .given .1) refl in let y = v .2 in omega arith
+
+cast-put-nest : tie.Need-cast-put-nest
+cast-put-nest c = let a = c .before .before .before .before .before .before .before .before .before .before .before .args in let p = c .before .before .before .before .before .before .before .before .before .before .before .pre in let v = nest-asks (tables (a .doc .now) (a .names .now) (a .qnames .now) (a .classes .now) (a .qclasses .now)) (a .rows) (a .qrows) (a .slots .now) (a .qslots .now) (a .out .now) (a .w) (a .item) (p .1) (p .2) (p .3) (p .4) (p .5) (p .6) (p .7) (c .before .before .before .before .item6 .given .1) refl in let y = v .0 in omega arith
+
+put-nest-requires : tie.Need-put-nest-requires
+put-nest-requires c κs = let a = c .before .before .before .before .before .before .before .before .before .before .before .args in let p = c .before .before .before .before .before .before .before .before .before .before .before .pre in let v = nest-asks (tables (a .doc .now) (a .names .now) (a .qnames .now) (a .classes .now) (a .qclasses .now)) (a .rows) (a .qrows) (a .slots .now) (a .qslots .now) (a .out .now) (a .w) (a .item) (p .1) (p .2) (p .3) (p .4) (p .5) (p .6) (p .7) (c .before .before .before .before .item6 .given .1) refl in (v .1, v .2, v .3, v .4)
+
+enum-told : tie.Need-enum-told
+enum-told c = search needs
+
+put-byte-requires-2 : tie.Need-put-byte-requires-2
+put-byte-requires-2 c κs = search needs
+
+same-length : tie.Need-same-length
+same-length c = search needs
+
+returns : tie.Need-returns
+returns c = let a = c .before .before .before .before .before .before .before .before .before .before .before .before .args in let p = c .before .before .before .before .before .before .before .before .before .before .before .before .pre in wrote-byte (tables (a .doc .now) (a .names .now) (a .qnames .now) (a .classes .now) (a .qclasses .now)) (a .rows) (a .qrows) (a .slots .now) (a .qslots .now) (a .out .now) (a .w) (a .item) (p .1) (p .2) (p .3) (p .4) (p .5) (p .6) (p .7) (c .before .before .before .before .before .item .given .1) (c .before .before .put-byte .ensures)
+
+same-length-2 : tie.Need-same-length-2
+same-length-2 c = search needs
+
+returns-2 : tie.Need-returns-2
+returns-2 c = let a = c .before .before .before .before .before .before .before .before .before .before .before .before .args in let p = c .before .before .before .before .before .before .before .before .before .before .before .before .pre in wrote-text (tables (a .doc .now) (a .names .now) (a .qnames .now) (a .classes .now) (a .qclasses .now)) (a .rows) (a .qrows) (a .slots .now) (a .qslots .now) (a .out .now) (a .w) (a .item) (p .1) (p .2) (p .3) (p .4) (p .5) (p .6) (p .7) (c .before .before .before .before .before .item2 .given .1) (c .before .before .put-texted .ensures)
+
+same-length-3 : tie.Need-same-length-3
+same-length-3 c = search needs
+
+returns-3 : tie.Need-returns-3
+returns-3 c = let a = c .before .before .before .before .before .before .before .before .before .before .before .before .before .before .args in let p = c .before .before .before .before .before .before .before .before .before .before .before .before .before .before .pre in let x = c .before .before .put-pi .ensures in wrote-pi (tables (a .doc .now) (a .names .now) (a .qnames .now) (a .classes .now) (a .qclasses .now)) (a .rows) (a .qrows) (a .slots .now) (a .qslots .now) (a .out .now) (a .w) (a .item) (p .1) (p .2) (p .3) (p .4) (p .5) (p .6) (p .7) (c .before .before .before .before .before .before .before .item3 .given .1) (c .before .before .before .before .before .class-at .ensures) refl (x .0) (x .1)
+
+same-length-4 : tie.Need-same-length-4
+same-length-4 c = search needs
+
+returns-4 : tie.Need-returns-4
+returns-4 c = let a = c .before .before .before .before .before .before .before .before .before .before .before .before .before .before .before .before .args in let p = c .before .before .before .before .before .before .before .before .before .before .before .before .before .before .before .before .pre in let x = c .before .before .refer .ensures in wrote-refer (tables (a .doc .now) (a .names .now) (a .qnames .now) (a .classes .now) (a .qclasses .now)) (a .rows) (a .qrows) (a .slots .now) (a .qslots .now) (a .out .now) (a .w) (a .item) (p .1) (p .2) (p .3) (p .4) (p .5) (p .6) (p .7) (c .before .before .before .before .before .before .before .before .before .item4 .given .1) (c .before .before .before .before .before .before .before .parts-at .ensures) (c .before .before .before .before .before .before .class-at2 .ensures) refl (x .0) (x .1) (x .2)
+
+same-length-5 : tie.Need-same-length-5
+same-length-5 c = search needs
+
+returns-5 : tie.Need-returns-5
+returns-5 c = let a = c .before .before .before .before .before .before .before .before .before .before .before .before .args in let p = c .before .before .before .before .before .before .before .before .before .before .before .before .pre in wrote-value (tables (a .doc .now) (a .names .now) (a .qnames .now) (a .classes .now) (a .qclasses .now)) (a .rows) (a .qrows) (a .slots .now) (a .qslots .now) (a .out .now) (a .w) (a .item) (p .1) (p .2) (p .3) (p .4) (p .5) (p .6) (p .7) (c .before .before .before .before .before .item5 .given .1) (c .before .before .put-valued .ensures)
+
+same-length-6 : tie.Need-same-length-6
+same-length-6 c = search needs
+
+returns-6 : tie.Need-returns-6
+returns-6 c = let a = c .before .before .before .before .before .before .before .before .before .before .before .before .before .before .args in let p = c .before .before .before .before .before .before .before .before .before .before .before .before .before .before .pre in let x = c .before .before .put-nest .ensures in wrote-nest (tables (a .doc .now) (a .names .now) (a .qnames .now) (a .classes .now) (a .qclasses .now)) (a .rows) (a .qrows) (a .slots .now) (a .qslots .now) (a .out .now) (a .w) (a .item) (p .1) (p .2) (p .3) (p .4) (p .5) (p .6) (p .7) (c .before .before .before .before .before .before .before .item6 .given .1) refl (x .0) (x .1) (x .2)
+
+same-length-7 : tie.Need-same-length-7
+same-length-7 c = search needs
+
+returns-7 : tie.Need-returns-7
+returns-7 c = let a = c .before .before .before .before .before .before .before .before .before .before .before .args in let p = c .before .before .before .before .before .before .before .before .before .before .before .pre in wrote-leave (tables (a .doc .now) (a .names .now) (a .qnames .now) (a .classes .now) (a .qclasses .now)) (a .rows) (a .qrows) (a .slots .now) (a .qslots .now) (a .out .now) (a .w) (a .item) (p .1) (p .2) (p .3) (p .4) (p .5) (p .6) (p .7) (c .before .before .before .before .enum-told .given .1) (c .before .before .put-byte2 .ensures)
+
+pub write-spec : {M : Type 1} → statement M
+write-spec =
+    tie.close
+    (tie.spec
+    mul-base
+    enum-known-item
+    cast-put-byte
+    put-byte-requires
+    enum-known-item-2
+    put-texted-requires
+    enum-known-item-3
+    class-at-requires
+    put-pi-requires
+    enum-known-item-4
+    sub-parts-at
+    parts-at-requires
+    class-at-requires-2
+    refer-requires
+    enum-known-item-5
+    put-valued-requires
+    enum-known-item-6
+    add-put-nest
+    cast-put-nest
+    put-nest-requires
+    enum-told
+    put-byte-requires-2
+    same-length
+    returns
+    same-length-2
+    returns-2
+    same-length-3
+    returns-3
+    same-length-4
+    returns-4
+    same-length-5
+    returns-5
+    same-length-6
+    returns-6
+    same-length-7
+    returns-7)
