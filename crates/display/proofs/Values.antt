@@ -3,10 +3,10 @@ use Prim.Native.Nat.{ℕ, _+_, _-_, _*_, _≤_}
 use mathlib.Core.Path.{_≡_, refl, sym, _∙_, ap}
 use mathlib.Core.Bool.{Bool, true, false, cond}
 use mathlib.Core.Option.{Option, none, some}
-use mathlib.Core.List.{List, [], _∷_, _++_, append-nil}
+use mathlib.Core.List.{List, [], _∷_, _++_}
 use native.Mathlib.Omega.{arith}
 use lib.Dec.{leb}
-use lib.ListN.{length, getD, take, drop, length-drop, drop-of-length-le}
+use lib.ListN.{length, getD, take, drop, length-drop}
 use lib.Seq.{take-all, getD-drop}
 use borrow.Author.Tests.{le-leb}
 use Rattle.lists.specs.Lists.{Bytes, bytesOf}
@@ -15,7 +15,6 @@ use Rattle.text.specs.declared.Shown.{Shown}
 use Rattle.text.specs.Text.{kindOf, textOf, isSame, laid, shownBy, Shows, partOf, handed, answerOf}
 use Rattle.text.proofs.Lengths.{text-told, text-short}
 use Rattle.text.proofs.Returned.{part-is}
-use Rattle.lines.specs.Lines.{PutBefore}
 use Rattle.display.specs.Display.{textLines, refusal, shownLines, valueLines, printed}
 
 -- every text fits a buffer of 262,226 bytes
@@ -48,12 +47,6 @@ module _ {token : ℕ} {p before after : List ℕ} {r : Shown} (b : Bytes p) (s 
 
   pub lines-shown : shownLines (answerOf r) (partOf p after r) ≡ valueLines (textOf token p)
   lines-shown = both .0
-
--- bytes put before the end of an array are its end
-pub ends-with : {before after bytes : List ℕ} {at : ℕ} → length before ≡ 524483 → PutBefore before after 524483 at bytes → drop at after ≡ bytes
-ends-with {before} {bytes = bytes} w p =
-    let l : length before ≤ 524483 = omega arith in
-    p .there ∙ rw (drop-of-length-le before l) (append-nil bytes)
 
 pub printed-none : (input : List ℕ) → length input ≡ 0 → printed input ≡ refusal 12 0
 printed-none [] e = refl

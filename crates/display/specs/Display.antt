@@ -1,5 +1,5 @@
 -- What the value program prints, in ASCII: `accepted N` and on the next line the text's bytes in hexadecimal, or `refused C at N`
--- (01, "Answer numbers").
+-- (01, "Answer numbers" and "Text of a value"; the layout is not 01's, docs/DECISIONS.md 59).
 use Prim.Native.Nat.{ℕ}
 use mathlib.Core.Bool.{cond}
 use mathlib.Core.Option.{Option, none, some}

@@ -1,7 +1,8 @@
 // What the value program prints, made at the end of one array from the last byte to the first.
 ghost use mathlib.Core.Path.{_≡_};
+ghost use mathlib.Core.List.{_++_};
 ghost use Prim.Native.Nat.{_≤_};
-ghost use lib.ListN.{length, drop};
+ghost use lib.ListN.{length, take};
 ghost use Rattle.text.specs.Text.{partOf, answerOf};
 ghost use Rattle.lines.specs.Lines.{PutBefore};
 ghost use Rattle.display.specs.Display.{textLines, refusal, shownLines, printed};
@@ -39,11 +40,11 @@ fn put_shown<'a>(out: &mut [u8], payload: &'a [u8], buffer: &'a [u8], shown: Sho
     }
 }
 
-// Shows the value of an input and puts what the program prints at the end of `out`; gives the place where it begins. A text has
+// Shows the value of an input and puts what the program prints at the end of `out`; gives the place where it begins. What stands before it stays. A text has
 // at most 82 bytes more than four for each byte of its payload, so the buffer holds every text.
 pub fn print(input: &[u8], out: &mut [u8]) -> usize
     requires { ⌜ length (now out) ≡ 524483 ⌝ }
-    ensures { λ r. ⌜ (drop r (now (out .exit)) ≡ printed (now (input .entry))) × (r ≤ 524483) ⌝ }
+    ensures { λ r. ⌜ (now (out .exit) ≡ take r (now (out .entry)) ++ printed (now (input .entry))) × (r ≤ 524483) ⌝ }
 {
     if input.len() == 0 {
         return put_refusal(out, token::NO_TEXT, 0);

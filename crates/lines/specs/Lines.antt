@@ -1,13 +1,15 @@
--- Text put before a place of an array.
+-- Text put before a place of an array, and the parts of the lines that the programs print (01, "Extracts worked by hand": `refused C
+-- at N`).
 use Prim.Native.Nat.{ℕ, _+_}
 use mathlib.Core.Path.{_≡_}
 use mathlib.Core.List.{List, [], _∷_, _++_}
-use lib.ListN.{length, drop}
+use lib.ListN.{length, take, drop}
 use Rattle.numeral.specs.Numeral.{digits}
 
--- the bytes stand from place `at` up to place `end`, and all that stands after them is as it was
+-- the bytes stand from place `at` up to place `end`, and all that stands after and before them is as it was
 pub record PutBefore (before after : List ℕ) (end at : ℕ) (bytes : List ℕ) : Type 0 where
   pub there : drop at after ≡ bytes ++ drop end before
+  pub front : take at after ≡ take at before
   pub place : at + length bytes ≡ end
   pub long : length after ≡ length before
 

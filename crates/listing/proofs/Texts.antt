@@ -2,10 +2,10 @@
 use Prim.Native.Nat.{ℕ, zero, suc, _+_, _*_, _≤_, _<_}
 use mathlib.Core.Path.{_≡_, refl, sym, _∙_, ap}
 use mathlib.Core.Bool.{cond}
-use mathlib.Core.List.{List, [], _∷_, _++_, append-nil}
+use mathlib.Core.List.{List, [], _∷_, _++_}
 use native.Mathlib.Omega.{arith}
 use lib.Dec.{eqb}
-use lib.ListN.{length, drop, drop-of-length-le}
+use lib.ListN.{length, take, drop}
 use Rattle.lists.specs.Lists.{overlay}
 use Rattle.lists.proofs.Tests.{tests}
 use Rattle.token.specs.Answers.{accepted}
@@ -17,18 +17,13 @@ use Rattle.reader.specs.Contract.{roomIn}
 use Rattle.lister.specs.Contract.{answerOf, pairsIn, pairRoom, listOf, Lists}
 use Rattle.lister.proofs.Theorems.{accepted-both, answer-counts}
 use Rattle.lines.specs.Lines.{PutBefore, line, refusedWord, atWord}
-use Rattle.lines.proofs.Laws.{both-put}
+use Rattle.lines.proofs.Laws.{both-put, whole-put}
 use Rattle.listing.specs.Printed.{recordsWord, pairsWord, pairLines, answerLines, printed, pairRows, FullListed}
 
 -- the pairs of a list of pairs' numbers, whatever follows them
 pub rows-back : (ps : List Pair) (t : List ℕ) → pairRows (length ps) (flatPairs ps ++ t) ≡ ps
 rows-back [] t = refl
 rows-back (p ∷ ps) t = ap (λ (l : List Pair). p ∷ l) (rows-back ps t)
-
--- bytes put before the end of a text are its end
-pub ends-with : {before after bytes : List ℕ} {at : ℕ} → PutBefore before after (length before) at bytes → drop at after ≡ bytes
-ends-with {before} {bytes = bytes} p =
-    p .there ∙ rw (drop-of-length-le before (let z : length before ≤ length before = omega arith in z)) (append-nil bytes)
 
 -- tables of these lengths have the full bounds, and the list 8,192 pairs
 pub full-listed : {doc names qnames events list names′ qnames′ events′ list′ : List ℕ} {a : Answer}
@@ -43,9 +38,9 @@ full-listed {doc} {names} {qnames} {events} {list} x y z w h =
 module _ {doc list list′ : List ℕ} {a : Answer} (f : FullListed doc list list′ a) where
   -- a refusal: one line
   pub refusal-printed : (a .number ≡ 0 → ⊥) → {before after : List ℕ} {at : ℕ}
-      → PutBefore before after (length before) at (line refusedWord (a .number) atWord (a .place)) → drop at after ≡ printed doc
+      → PutBefore before after (length before) at (line refusedWord (a .number) atWord (a .place)) → after ≡ take at before ++ printed doc
   unfolding printed answerLines
-  refusal-printed n p = ends-with p ∙ rw (← f .answer-is) (simp (tests, n))
+  refusal-printed n p = whole-put refl p (rw (← f .answer-is) (simp (tests, n)))
 
   module _ (ok : a .number ≡ 0) (w : length list ≡ 16384) where
     abbrev ps : List Pair
@@ -70,6 +65,6 @@ module _ {doc list list′ : List ℕ} {a : Answer} (f : FullListed doc list lis
 
     -- an accepted document: the counts, then the pairs
     pub pairs-printed : {t t₁ t₂ : List ℕ} {mid at : ℕ} → PutBefore t t₁ (length t) mid (pairLines (pairRows (a .pairs) list′))
-        → PutBefore t₁ t₂ mid at (line recordsWord (a .records) pairsWord (a .pairs)) → drop at t₂ ≡ printed doc
+        → PutBefore t₁ t₂ mid at (line recordsWord (a .records) pairsWord (a .pairs)) → t₂ ≡ take at t ++ printed doc
     unfolding printed answerLines
-    pairs-printed p q = ends-with (both-put p q) ∙ rw (rows-are, ← f .answer-is) (simp (tests, ok))
+    pairs-printed p q = whole-put refl (both-put p q) (rw (rows-are, ← f .answer-is) (simp (tests, ok)))

@@ -1,8 +1,9 @@
 // What the listing program prints, made at the end of one array from the last line to the first, so that it goes out in one
 // write and no number is moved.
 ghost use mathlib.Core.Path.{_≡_};
+ghost use mathlib.Core.List.{_++_};
 ghost use Prim.Native.Nat.{_+_, _*_, _≤_};
-ghost use lib.ListN.{length, drop};
+ghost use lib.ListN.{length, take};
 ghost use Rattle.lines.specs.Lines.{PutBefore};
 ghost use Rattle.listing.specs.Printed.{pairLines, printed, pairRows, FullListed};
 use lister::Answer;
@@ -34,11 +35,11 @@ fn list_full(doc: &[u8], pairs: &mut [u32]) -> Answer
     lister::list(doc, &mut names, &mut qnames, &mut events, pairs)
 }
 
-// Lists a document and puts what the program prints at the end of `text`; gives the place where it begins. A line of a pair
+// Lists a document and puts what the program prints at the end of `text`; gives the place where it begins. What stands before it stays. A line of a pair
 // has at most 22 bytes, the first line at most 56.
 pub fn print(doc: &[u8], text: &mut [u8]) -> usize
     requires { ⌜ length (now text) ≡ 180280 ⌝ }
-    ensures { λ r. ⌜ (drop r (now (text .exit)) ≡ printed (now (doc .entry))) × (r ≤ 180280) ⌝ }
+    ensures { λ r. ⌜ (now (text .exit) ≡ take r (now (text .entry)) ++ printed (now (doc .entry))) × (r ≤ 180280) ⌝ }
 {
     let mut pairs = [0u32; 16384];
     let a = list_full(doc, &mut pairs);

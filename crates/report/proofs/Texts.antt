@@ -1,9 +1,9 @@
 -- What stands at the end of the text is what the program prints. Assumes nothing.
 use Prim.Native.Nat.{ℕ, _≤_}
-use mathlib.Core.Path.{_≡_, refl, sym, _∙_}
-use mathlib.Core.List.{List, [], _++_, append-nil}
+use mathlib.Core.Path.{_≡_, refl}
+use mathlib.Core.List.{List, _++_}
 use native.Mathlib.Omega.{arith}
-use lib.ListN.{length, drop, drop-of-length-le}
+use lib.ListN.{length, take}
 use Rattle.reader.specs.Rows.{NameRow, QnameRow, EventRow}
 use Rattle.reader.specs.Machine.{Result, reading}
 use Rattle.reader.specs.Contract.{roomIn, answerOf, Reads}
@@ -13,7 +13,7 @@ use Rattle.classes.specs.Tables.{nameRowsIn, qnameRowsIn, eventRowsIn}
 use Rattle.filled.proofs.Rooms.{rows-few}
 use Rattle.filled.proofs.Filled.{names-read, qnames-read, events-read, names-back, qnames-back, events-back}
 use Rattle.lines.specs.Lines.{PutBefore}
-use Rattle.lines.proofs.Laws.{both-put}
+use Rattle.lines.proofs.Laws.{both-put, whole-put}
 use Rattle.report.specs.Report.{verdict, counts, answerLine, nameLines, qnameLines, eventLines, rowLines, printed}
 
 pub answer-put : (a : Answer) {t t₁ t₂ : List ℕ} {end mid at : ℕ} → PutBefore t t₁ end mid (counts (a .names) (a .qnames) (a .events) (a .version))
@@ -45,12 +45,6 @@ module _ (doc : List ℕ) {names qnames events names′ qnames′ events′ : Li
 
   pub all-printed : {t t₁ t₂ : List ℕ} {mid at : ℕ} → length t ≡ 239771
       → PutBefore t t₁ 239771 mid (rowLines (nameRowsIn (a .names) names′) (qnameRowsIn (a .qnames) qnames′) (eventRowsIn (a .events) events′))
-      → PutBefore t₁ t₂ mid at (answerLine a) → drop at t₂ ≡ printed doc
+      → PutBefore t₁ t₂ mid at (answerLine a) → t₂ ≡ take at t ++ printed doc
   unfolding printed
-  all-printed {t} {at = at} w p q =
-      let l : length t ≤ 239771 = omega arith in
-      let d : drop 239771 t ≡ [] = drop-of-length-le t l in
-      let e = rw d at (both-put p q .there) in
-      let rows : List ℕ = rowLines (nameRowsIn (a .names) names′) (qnameRowsIn (a .qnames) qnames′) (eventRowsIn (a .events) events′) in
-      let f : answerLine a ++ rows ≡ printed doc = rw (names-back read, qnames-back read, events-back read, read .answer-is) refl in
-      e ∙ append-nil (answerLine a ++ rows) ∙ f
+  all-printed w p q = whole-put w (both-put p q) (rw (names-back read, qnames-back read, events-back read, read .answer-is) refl)

@@ -1,5 +1,6 @@
 -- What the reading program prints for a document, in ASCII: `accepted N` or `refused C at N`, followed by
--- ` names A qnames B events C version V`, and then a line for each row of the three tables.
+-- ` names A qnames B events C version V`, and then a line for each row of the three tables (01, "Answer numbers" and "Rows"; the
+-- layout is not 01's, docs/DECISIONS.md 59).
 use Prim.Native.Nat.{ℕ, _%_}
 use mathlib.Core.Bool.{cond}
 use mathlib.Core.List.{List, [], _∷_, _++_}

@@ -3,7 +3,7 @@
 ghost use mathlib.Core.Path.{_≡_};
 ghost use mathlib.Core.List.{[], _∷_, _++_};
 ghost use Prim.Native.Nat.{_+_, _*_, _≤_, _<_};
-ghost use lib.ListN.{length, drop};
+ghost use lib.ListN.{length, take};
 ghost use Rattle.lists.specs.Lists.{part};
 ghost use Rattle.classes.specs.Tables.{nameRowsIn, qnameRowsIn, eventRowsIn};
 ghost use Rattle.lines.specs.Lines.{PutBefore};
@@ -146,10 +146,10 @@ pub fn put_rows(
 }
 
 // Reads a document into tables at the full bounds, and puts what the program prints at the end of `text`; gives the place
-// where it begins. A line of a name has at most 27 bytes, of a qname 39, of an event 42, and the first line 155.
+// where it begins. What stands before it stays. A line of a name has at most 27 bytes, of a qname 39, of an event 42, and the first line 155.
 pub fn print(doc: &[u8], text: &mut [u8]) -> usize
     requires { ⌜ length (now text) ≡ 239771 ⌝ }
-    ensures { λ r. ⌜ (drop r (now (text .exit)) ≡ printed (now (doc .entry))) × (r ≤ 239771) ⌝ }
+    ensures { λ r. ⌜ (now (text .exit) ≡ take r (now (text .entry)) ++ printed (now (doc .entry))) × (r ≤ 239771) ⌝ }
 {
     let mut names = [0u32; 2048];
     let mut qnames = [0u32; 3072];

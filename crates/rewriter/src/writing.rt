@@ -122,17 +122,18 @@ pub fn write(
     ensures { λ r. ⌜ Wrote (tables (now (doc .entry)) (now (names .entry)) (now (qnames .entry)) (now (classes .entry)) (now (qclasses .entry)))
         (now (slots .entry)) (now (qslots .entry)) (now (out .entry)) (now (slots .exit)) (now (qslots .exit)) (now (out .exit)) w item r ⌝ }
 {
+    let at = w.at;
     let base = 1025 * w.depth;
     match item {
-        Item::Byte(value) => put_byte(out, w.at, value as u8),
+        Item::Byte(value) => put_byte(out, at, value as u8),
         Item::Texted {
             token,
             place,
             units,
-        } => put_texted(doc, out, w.at, token, place, units),
+        } => put_texted(doc, out, at, token, place, units),
         Item::Pi { row, start } => {
             let class = naming::class_at(classes, row);
-            put_pi(doc, names, out, slots, rows, w.at, base, class, start)
+            put_pi(doc, names, out, slots, rows, at, base, class, start)
         }
         Item::Refer { token, row } => {
             let q = naming::parts_at(qnames, classes, row - 1);
@@ -144,23 +145,15 @@ pub fn write(
                 slots,
                 qslots,
                 rows,
-                w.at,
+                at,
                 base,
                 token,
                 q,
                 class,
             )
         }
-        Item::Valued { token, place, size } => put_valued(
-            table,
-            doc,
-            out,
-            w.at,
-            token,
-            place,
-            size,
-        ),
-        Item::Nest(version) => put_nest(out, slots, qslots, w.at, base + 1025, version as u8),
-        Item::Leave => put_byte(out, w.at, 0xEB),
+        Item::Valued { token, place, size } => put_valued(table, doc, out, at, token, place, size),
+        Item::Nest(version) => put_nest(out, slots, qslots, at, base + 1025, version as u8),
+        Item::Leave => put_byte(out, at, 0xEB),
     }
 }

@@ -5,7 +5,8 @@ use Prim.Native.Nat.{ℕ}
 use mathlib.Core.Path.{_∙_, sym}
 use lib.ListN.{length-replicate}
 use Rattle.lists.specs.Lists.{Bytes}
-use Rattle.display.proofs.Values.{part-short, lines-shown, ends-with, printed-none, printed-some, payload-is, rest-bytes}
+use Rattle.lines.proofs.Laws.{whole-put}
+use Rattle.display.proofs.Values.{part-short, lines-shown, printed-none, printed-some, payload-is, rest-bytes}
 use Rattle.display.proofs.print.Statement.{statement}
 use Rattle.display.proofs.print.Tie as tie
 
@@ -19,7 +20,7 @@ returns : tie.Need-returns
 returns c =
     let x = c .before .before .before .before .before .before .before in
     let p = c .before .before .put-refusal .ensures in
-    (ends-with (x .pre) p ∙ sym (printed-none (x .args .input .now) (c .before .before .before .before .if1 .taken)), omega (arith, p .place))
+    (whole-put (x .pre) p (sym (printed-none (x .args .input .now) (c .before .before .before .before .if1 .taken))), omega (arith, p .place))
 
 sub-payload : tie.Need-sub-payload
 sub-payload c = search needs
@@ -59,7 +60,7 @@ returns-2 c =
     let e = payload-is (x .args .input .now) in
     let p = c .before .before .put-shown .ensures in
     let l = lines-shown (rw e (rest-bytes b)) (c .before .before .before .before .before .before .show .ensures) (length-replicate {A = ℕ} 262226 0) in
-    (ends-with (x .pre) p ∙ l ∙ rw e (sym (printed-some (x .args .input .now) (c .before .before .before .before .before .before .before .before .before .before .if1 .left))), omega (arith, p .place))
+    (whole-put (x .pre) p (l ∙ rw e (sym (printed-some (x .args .input .now) (c .before .before .before .before .before .before .before .before .before .before .if1 .left)))), omega (arith, p .place))
 
 pub print-spec : {M : Type 1} → statement M
 print-spec =
