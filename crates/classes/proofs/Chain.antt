@@ -12,7 +12,7 @@ use lib.ListN.{length, getD, set, length-set}
 use lib.Seq.{getD-set-same, getD-set-other}
 use borrow.Author.Count.{below-none, below-more}
 use borrow.Author.Tests.{ltb-true, ltb-false, eqb-true, eqb-false}
-use Rattle.lists.proofs.Tests.{cond-if}
+use Rattle.sequences.proofs.Tests.{cond-if}
 use Rattle.classes.specs.Search.{Last, Chained}
 use Rattle.classes.proofs.Filled.{Filled}
 

@@ -7,8 +7,8 @@ use mathlib.Core.Option.{some}
 use mathlib.Core.List.{List, [], _∷_, map}
 use native.Mathlib.Omega.{arith}
 use lib.ListN.{length, getD, getElem?, length-map}
-use Rattle.reader.specs.Rows.{NameRow, QnameRow}
-use Rattle.reader.specs.Events.{nameText}
+use Rattle.machine.specs.Rows.{NameRow, QnameRow}
+use Rattle.machine.specs.Events.{nameText}
 use Rattle.form.specs.Places.{Triple, sameText, sameTriple, place, numberOf, qnumberOf}
 use Rattle.form.proofs.Places.{Tells, tells-text, tells-triple, place-at, place-found}
 use Rattle.classes.specs.Classes.{rowText, textsOf, nameClasses, tripleOf, triplesOf, qnameClasses}

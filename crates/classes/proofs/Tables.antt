@@ -7,9 +7,9 @@ use mathlib.Core.List.{List, [], _∷_, _++_, map}
 use native.Mathlib.Omega.{arith}
 use lib.ListN.{length, getD, getElem?, drop}
 use lib.Seq.{getD-drop}
-use Rattle.lists.specs.Lists.{overlay}
-use Rattle.reader.specs.Rows.{NameRow, QnameRow, EventRow, nameRow, qnameRow, event, flatNames, flatQnames, flatEvents}
-use Rattle.reader.specs.Facts.{Every, none, first}
+use Rattle.sequences.specs.Lists.{overlay}
+use Rattle.machine.specs.Rows.{NameRow, QnameRow, EventRow, nameRow, qnameRow, event, flatNames, flatQnames, flatEvents}
+use Rattle.machine.specs.Facts.{Every, none, first}
 use Rattle.classes.specs.Tables.{nameRowsIn, qnameRowsIn, eventRowsIn}
 
 -- an element that stands somewhere

@@ -2,9 +2,9 @@
 -- compared once for each table, and classes afterwards.
 use Prim.Native.Nat.{ℕ, _+_, _*_, _%_}
 use mathlib.Core.List.{List, [], _∷_, map}
-use Rattle.lists.specs.Lists.{part}
-use Rattle.reader.specs.Rows.{NameRow, QnameRow}
-use Rattle.reader.specs.Events.{nameText}
+use Rattle.sequences.specs.Lists.{part}
+use Rattle.machine.specs.Rows.{NameRow, QnameRow}
+use Rattle.machine.specs.Events.{nameText}
 use Rattle.form.specs.Places.{Triple, triple, numberOf, qnumberOf}
 
 -- the texts of rows of names

@@ -4,7 +4,7 @@ use Prim.Native.Nat.{ℕ, zero, suc, _+_, _*_, _%_, _≤_, _<_}
 use mathlib.Core.Path.{_≡_}
 use mathlib.Core.List.{List}
 use lib.ListN.{length, getD}
-use Rattle.reader.specs.Rows.{NameRow, nameRow}
+use Rattle.machine.specs.Rows.{NameRow, nameRow}
 use Rattle.classes.specs.Classes.{rowText, hashOf}
 
 -- row k of a table of names, from 0, and its text

@@ -2,7 +2,7 @@
 use Prim.Native.Nat.{ℕ, zero, suc}
 use mathlib.Core.List.{List, [], _∷_}
 use lib.ListN.{getD, drop}
-use Rattle.reader.specs.Rows.{NameRow, QnameRow, EventRow, nameRow, qnameRow, event}
+use Rattle.machine.specs.Rows.{NameRow, QnameRow, EventRow, nameRow, qnameRow, event}
 
 abbrev pub nameRowsIn : ℕ → List ℕ → List NameRow
 nameRowsIn zero l = []

@@ -1,18 +1,18 @@
 -- A header byte by byte: what each of its five answers says. Assumes nothing.
 use Prim.Native.Nat.{ℕ, _+_, _≤_, _<_}
-use mathlib.Core.Path.{_≡_, refl, sym, _∙_, ap}
-use mathlib.Core.Bool.{Bool, true, false, cond, _&&_}
+use mathlib.Core.Path.{_≡_, refl, _∙_}
+use mathlib.Core.Bool.{false, _&&_}
 use mathlib.Core.List.{List}
 use native.Mathlib.Omega.{arith}
 use lib.Dec.{ltb, leb, eqb}
 use lib.ListN.{length, getD}
 use borrow.Author.Tests.{ltb-true, leb-true}
-use Rattle.lists.proofs.Tests.{tests, cond-if, and-left, and-right}
+use Rattle.sequences.proofs.Tests.{tests, cond-if, and-left, and-right}
 use Rattle.token.specs.Answers.{accepted, missing, badHeader}
 use Rattle.fields.specs.Headers.{judged, headerAt, HeaderWithin}
 use Rattle.fields.specs.Faults.{refusedBy, Judges}
 use Rattle.fields.specs.declared.Header.{Header}
-use Rattle.fields.specs.declared.Header.the-variants.{Is, Refused}
+use Rattle.fields.specs.declared.Header.the-variants.{Is}
 
 module _ (doc : List ℕ) (at first last : ℕ) where
   pub byte-missing : length doc ≤ at → Judges doc at first last missing

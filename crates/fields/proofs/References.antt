@@ -1,22 +1,20 @@
 -- What each way out of reading a reference says; a reference lies inside the document. Assumes nothing.
-use Prim.Native.Nat.{ℕ, _+_, _≤_, _<_}
-use mathlib.Core.Path.{_≡_, refl, sym, _∙_, ap}
-use mathlib.Core.Bool.{Bool, true, false, cond, _&&_}
+use Prim.Native.Nat.{ℕ, _≤_, _<_}
+use mathlib.Core.Path.{_≡_, sym, _∙_, ap}
+use mathlib.Core.Bool.{_&&_}
 use mathlib.Core.List.{List}
 use native.Mathlib.Omega.{arith}
 use lib.Dec.{leb}
 use lib.ListN.{length}
 use borrow.Author.Tests.{leb-true}
-use Rattle.lists.proofs.Tests.{tests, cond-if, and-left, and-right}
-use Rattle.token.specs.Answers.{notDefined, largest}
+use Rattle.sequences.proofs.Tests.{tests, cond-if, and-left, and-right}
+use Rattle.token.specs.Answers.{notDefined}
 use Rattle.number.specs.Number.{numberAt, Within}
 use Rattle.number.specs.declared.Number.{Number}
 use Rattle.number.specs.declared.Number.the-variants as number
 use Rattle.number.proofs.Within.{number-within}
 use Rattle.fields.specs.References.{nameAfter, nameAt, NameWithin, qnameAfter, qnameAt, QnameWithin}
-use Rattle.fields.specs.declared.Name.{Name}
 use Rattle.fields.specs.declared.Name.the-variants as name
-use Rattle.fields.specs.declared.Qname.{Qname}
 use Rattle.fields.specs.declared.Qname.the-variants as qname
 
 module _ (known : ℕ) (doc : List ℕ) (at : ℕ) {r n : Number} (e : r ≡ numberAt 5 doc at) (g : r ≡ n) where

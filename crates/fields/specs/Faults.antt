@@ -8,7 +8,7 @@ use lib.ListN.{length, getD}
 use Rattle.token.specs.Answers.{missing, badHeader}
 use Rattle.fields.specs.Headers.{judged}
 use Rattle.fields.specs.declared.Header.{Header}
-use Rattle.fields.specs.declared.Header.the-variants.{Is, Refused}
+use Rattle.fields.specs.declared.Header.the-variants.{Refused}
 
 -- the refusal of a byte at a place
 unfoldable pub refusedBy : ℕ → ℕ → ℕ → Header

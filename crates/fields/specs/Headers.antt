@@ -1,5 +1,5 @@
 -- The header of a document (004, section 2.1.1; 01, "Document rules"): DF FF, version 01 or 02, B0 04, byte by byte.
-use Prim.Native.Nat.{ℕ, _+_, _≤_, _<_}
+use Prim.Native.Nat.{ℕ, _+_, _≤_}
 use mathlib.Core.Path.{_≡_}
 use mathlib.Core.Bool.{cond, _&&_}
 use mathlib.Core.List.{List}

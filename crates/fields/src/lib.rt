@@ -1,7 +1,7 @@
 // Fields of tokens that are no payload: references to names and qnames by number, and the header of a document
 // (004, sections 2.1.1 and 2.2; 01, "Document rules").
 ghost use mathlib.Core.Path.{_≡_};
-ghost use Prim.Native.Nat.{_≤_, _<_};
+ghost use Prim.Native.Nat.{_<_};
 ghost use lib.ListN.{length};
 ghost use Rattle.fields.specs.References.{nameAt, NameWithin, qnameAt, QnameWithin};
 ghost use Rattle.fields.specs.Headers.{headerAt, HeaderWithin};

@@ -4,15 +4,15 @@ use mathlib.Core.Path.{_≡_, sym, ap, _∙_}
 use mathlib.Core.List.{List, map}
 use native.Mathlib.Omega.{arith}
 use lib.ListN.{length, length-append}
-use Rattle.lists.specs.Lists.{overlay}
-use Rattle.reader.specs.Rows.{flatNames, flatQnames, flatEvents}
-use Rattle.reader.specs.Machine.{Result, reading}
-use Rattle.reader.specs.Events.{eventOf, eventsOf}
-use Rattle.reader.specs.Facts.{Every, NameFits, QnameFits, Placed}
-use Rattle.reader.specs.Contract.{roomIn, Reads}
-use Rattle.reader.specs.declared.Answer as reader-answer
-use Rattle.reader.proofs.Facts.{rows-fit}
-use Rattle.reader.proofs.Rows.{length-names, length-qnames, length-events}
+use Rattle.sequences.specs.Lists.{overlay}
+use Rattle.machine.specs.Rows.{flatNames, flatQnames, flatEvents}
+use Rattle.machine.specs.Machine.{Result, reading}
+use Rattle.machine.specs.Events.{eventOf, eventsOf}
+use Rattle.machine.specs.Facts.{Every, NameFits, QnameFits, Placed}
+use Rattle.machine.specs.Contract.{roomIn, Reads}
+use Rattle.machine.specs.declared.Answer as reader-answer
+use Rattle.machine.proofs.Facts.{rows-fit}
+use Rattle.machine.proofs.Rows.{length-names, length-qnames, length-events}
 use Rattle.classes.specs.Tables.{nameRowsIn, qnameRowsIn, eventRowsIn}
 use Rattle.classes.proofs.Tables.{name-rows-back, qname-rows-back, event-rows-back}
 use Rattle.filled.proofs.Rooms.{rows-few, accepted-short}

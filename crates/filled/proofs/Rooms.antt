@@ -13,11 +13,11 @@ use Rattle.scan.specs.declared.Room.{Room}
 use Rattle.scan.specs.declared.Step.{Step}
 use Rattle.scan.specs.declared.Step.the-variants as step
 use Rattle.scan.proofs.Fine.{found-fine}
-use Rattle.reader.specs.Machine.{Scope, State, view, returned, apply, started, Result, reading}
-use Rattle.reader.proofs.Keeps.{Goes}
-use Rattle.reader.proofs.Trace.{kept}
-use Rattle.reader.proofs.Readings.{by-reading}
-use Rattle.reader.proofs.Whole.{too-long}
+use Rattle.machine.specs.Machine.{Scope, State, view, returned, apply, started, Result, reading}
+use Rattle.machine.proofs.Goes.{Goes}
+use Rattle.machine.proofs.Trace.{kept}
+use Rattle.machine.proofs.Readings.{by-reading}
+use Rattle.machine.proofs.Whole.{too-long}
 use Rattle.grammar.specs.Points.{Point}
 use Rattle.grammar.specs.Grammar.{Depth, Document, document}
 use Rattle.grammar.proofs.Steps.{Fits}

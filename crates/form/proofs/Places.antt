@@ -1,16 +1,16 @@
 -- The place of an element in a list: once a test tells its elements apart, it is where the element stands, or the list's
 -- length. Assumes nothing.
 use Prim.Native.Nat.{ℕ, zero, suc, _≤_, _<_}
-use mathlib.Core.Path.{_≡_, refl, ap, sym, _∙_}
-use mathlib.Core.Bool.{Bool, true, false, cond, _&&_}
-use mathlib.Core.Option.{Option, none, some}
+use mathlib.Core.Path.{_≡_, refl, ap}
+use mathlib.Core.Bool.{Bool, true, false, cond}
+use mathlib.Core.Option.{some}
 use mathlib.Core.List.{List, [], _∷_, _++_}
 use native.Mathlib.Omega.{arith}
 use lib.Dec.{eqb}
-use lib.ListN.{length, getElem?, length-append}
+use lib.ListN.{length, getElem?}
 use borrow.Author.Tests.{eqb-true, eqb-false, eq-eqb, ne-eqb}
-use Rattle.lists.proofs.Tests.{and-left, and-right, cond-if}
-use Rattle.form.specs.Places.{Triple, triple, sameText, sameTriple, place, absent, fresh, numberOf, grownIf, grown}
+use Rattle.sequences.proofs.Tests.{and-left, and-right, cond-if}
+use Rattle.form.specs.Places.{triple, sameText, sameTriple, place, absent}
 
 -- a test of equality
 pub record Tells {A : Type 0} (same : A → A → Bool) : Type 0 where

@@ -10,8 +10,8 @@ use Rattle.token.specs.Tokens.{shapeOf}
 use Rattle.token.specs.declared.Shape.{Shape}
 use Rattle.token.specs.declared.Shape.the-variants.{Nothing, Fixed, Text, Blob, CodePage, Decimal, Qname, Stamp, Date, Time, ZonedTime}
 use Rattle.number.specs.Number.{shortest}
-use Rattle.reader.specs.Events.{Event, texted, standalone, pi, qnamed, valued, nest, plain}
-use Rattle.form.specs.Places.{Triple, triple, sameTriple, absent, fresh, numberOf, qnumberOf, grownIf, grown}
+use Rattle.machine.specs.Events.{Event, texted, standalone, pi, qnamed, valued, nest, plain}
+use Rattle.form.specs.Places.{Triple, triple, sameTriple, absent, fresh, numberOf, qnumberOf, grown}
 
 -- ---- bytes of texts, payloads and headers
 

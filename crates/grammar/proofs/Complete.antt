@@ -5,17 +5,16 @@ use mathlib.Core.Bool.{Bool, true, false, _||_}
 use mathlib.Core.List.{List, _∷_}
 use Rattle.token.specs.Tokens.{classOf}
 use Rattle.token.specs.declared.Class.the-variants as class
-use Rattle.scan.specs.Modes.{content, listing, declares, is, afterMetadata, afterMisc, afterValue}
+use Rattle.modes.specs.Modes.{content, listing, declares, is, afterMetadata, afterMisc, afterValue}
 use Rattle.scan.specs.Steps.{classStep}
-use Rattle.scan.specs.declared.Mode.{Mode}
-use Rattle.scan.specs.declared.Mode.the-variants as mode
+use Rattle.modes.specs.declared.Mode.{Mode}
+use Rattle.modes.specs.declared.Mode.the-variants as mode
 use Rattle.scan.specs.declared.Room.{Room}
-use Rattle.reader.specs.Machine.{Scope, scope}
-use Rattle.reader.proofs.Outside.{misc-content}
+use Rattle.machine.specs.Machine.{Scope, scope}
+use Rattle.machine.proofs.Outside.{misc-content}
 use Rattle.grammar.specs.Points.{Point, referred, ended, headed, nesting, returned}
 use Rattle.grammar.specs.Fields.{Byte}
-use Rattle.grammar.specs.Grammar.{Star, nil, cons, Optional, absent, present, Depth, flat, both, inElement, inDocument, Qname, TextToken, Header, XmlDecl, xmldecl, DocTypeDecl, doctypedecl, Metadata, Comment, comment, Misc, misc-comment, misc-pi, misc-metadata, CdSect, cdsect, Part, part-metadata, part-value, Attribute, attribute, Attributes, attributes, Typed, typed}
-use Rattle.grammar.specs.Grammar.{Document, document, Content, done, then, an-element, a-cdsect, a-pi, a-comment, an-atomicvalue, a-metadata, a-nestedbinaryxml, element, nestedbinaryxml}
+use Rattle.grammar.specs.Grammar.{Star, nil, cons, Optional, absent, present, Depth, flat, both, inElement, inDocument, Qname, TextToken, Header, XmlDecl, xmldecl, DocTypeDecl, doctypedecl, Metadata, Comment, comment, Misc, misc-comment, misc-pi, misc-metadata, CdSect, cdsect, Part, part-metadata, part-value, Attribute, attribute, Attributes, attributes, Typed, typed, Document, document, Content, done, then, an-element, a-cdsect, a-pi, a-comment, an-atomicvalue, a-metadata, a-nestedbinaryxml, element, nestedbinaryxml}
 use Rattle.grammar.proofs.Rest.{clash}
 use Rattle.grammar.proofs.Steps as steps
 use Rattle.grammar.proofs.Steps.{stateOf, Reach, stay, _⨾_}

@@ -4,8 +4,8 @@ use Prim.Native.Nat.{ℕ, _+_}
 use mathlib.Core.Path.{refl}
 use mathlib.Core.List.{List, [], _∷_, _++_}
 use native.Mathlib.Omega.{arith}
-use Rattle.reader.specs.Rows.{event}
-use Rattle.reader.specs.Examples.{H, full}
+use Rattle.machine.specs.Rows.{event}
+use Rattle.machine.specs.Examples.{H, full}
 use Rattle.grammar.specs.Points.{blank, texted, headed}
 use Rattle.grammar.specs.Fields.{lowbyte}
 use Rattle.grammar.specs.Grammar.{nil, absent, flat, texttoken, Header, comment, document, done, then, a-comment, Derives}

@@ -7,15 +7,15 @@ use native.Mathlib.Omega.{arith}
 use lib.ListN.{length}
 use borrow.Author.Tests.{le-ltb}
 use Rattle.token.specs.Answers.{accepted}
-use Rattle.scan.specs.Modes.{content}
+use Rattle.modes.specs.Modes.{content}
 use Rattle.scan.specs.Steps.{endStep, stepAt}
-use Rattle.scan.specs.declared.Mode.{Mode}
-use Rattle.scan.specs.declared.Mode.the-variants as mode
+use Rattle.modes.specs.declared.Mode.{Mode}
+use Rattle.modes.specs.declared.Mode.the-variants as mode
 use Rattle.scan.specs.declared.Room.{Room}
 use Rattle.scan.specs.declared.Step.{Step}
 use Rattle.scan.specs.declared.Step.the-variants as step
-use Rattle.reader.specs.Machine.{Scope, State, elementsIn, apply, started}
-use Rattle.reader.proofs.Keeps.{Goes}
+use Rattle.machine.specs.Machine.{Scope, State, elementsIn, apply, started}
+use Rattle.machine.proofs.Goes.{Goes}
 use Rattle.grammar.specs.Points.{Point, blank}
 use Rattle.grammar.specs.Grammar.{Depth, Header, Document}
 use Rattle.grammar.proofs.Steps.{stateOf, Fits, look, Path, none, by}

@@ -12,23 +12,23 @@ use Rattle.token.specs.Answers.{accepted, longest}
 use Rattle.fields.specs.Headers.{headerAt}
 use Rattle.fields.specs.declared.Header as headers
 use Rattle.fields.specs.declared.Header.the-variants as header
-use Rattle.scan.specs.Modes.{content}
+use Rattle.modes.specs.Modes.{content}
 use Rattle.scan.specs.Steps.{stepAt}
-use Rattle.scan.specs.declared.Mode.the-variants as mode
+use Rattle.modes.specs.declared.Mode.the-variants as mode
 use Rattle.scan.specs.declared.Room.{Room}
 use Rattle.scan.specs.declared.Step.{Step}
 use Rattle.scan.specs.declared.Step.the-variants as step
-use Rattle.reader.specs.Machine as machine
-use Rattle.reader.specs.Machine.{Scope, State, view, apply, started, Result, reading}
-use Rattle.reader.specs.Events.{eventsOf}
-use Rattle.reader.proofs.Keeps.{Goes}
-use Rattle.reader.proofs.Trace as traces
-use Rattle.reader.proofs.Trace.{Trace, Stopped, stops-reading, kept}
-use Rattle.reader.proofs.Whole.{too-long, header-on}
-use Rattle.reader.proofs.Refusals.{header-refused}
-use Rattle.reader.proofs.Found as found
-use Rattle.reader.proofs.Found.{Found, found-step}
-use Rattle.reader.proofs.Readings.{accepted-ends}
+use Rattle.machine.specs.Machine as machine
+use Rattle.machine.specs.Machine.{Scope, State, view, apply, started, Result, reading}
+use Rattle.machine.specs.Events.{eventsOf}
+use Rattle.machine.proofs.Goes.{Goes}
+use Rattle.machine.proofs.Trace as traces
+use Rattle.machine.proofs.Trace.{Trace, Stopped, stops-reading, kept}
+use Rattle.machine.proofs.Whole.{too-long, header-on}
+use Rattle.machine.proofs.Refusals.{header-refused}
+use Rattle.machine.proofs.Found as found
+use Rattle.machine.proofs.Found.{Found, found-step}
+use Rattle.machine.proofs.Readings.{accepted-ends}
 use Rattle.grammar.specs.Points.{Point, Rows, rowsAt, blank}
 use Rattle.grammar.specs.Grammar.{Header, Derives}
 use Rattle.grammar.specs.Accepts.{rowsIn, Accepts, eventsIn}

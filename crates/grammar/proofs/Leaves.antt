@@ -11,7 +11,7 @@ use lib.Dec.{ltb, leb}
 use lib.ListN.{length, getD, drop, drop-of-length-le}
 use lib.Seq.{drop-cons}
 use borrow.Author.Tests.{ltb-true, ltb-false, leb-true, lt-ltb, le-ltb, le-leb}
-use Rattle.lists.proofs.Tests.{cond-if, and-left, and-right}
+use Rattle.sequences.proofs.Tests.{cond-if, and-left, and-right}
 use Rattle.token.specs.Answers.{largest}
 use Rattle.token.specs.declared.NameNumber.{NameNumber}
 use Rattle.token.specs.declared.QnameNumber.{QnameNumber}

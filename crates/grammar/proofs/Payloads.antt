@@ -11,15 +11,15 @@ use lib.Dec.{ltb, leb, eqb}
 use lib.ListN.{length, getD, take, drop}
 use lib.Seq.{getD-take, getD-drop, take-take, drop-drop}
 use borrow.Author.Tests.{ltb-true, leb-true, eqb-true, lt-ltb, le-ltb, le-leb, eq-eqb}
-use Rattle.lists.specs.Lists.{part, little}
-use Rattle.lists.proofs.Tests.{tests, cond-if, and-left, and-right}
-use Rattle.lists.proofs.Overlay.{part-length}
+use Rattle.sequences.specs.Lists.{part, little}
+use Rattle.sequences.proofs.Tests.{tests, cond-if, and-left, and-right}
+use Rattle.sequences.proofs.Overlay.{part-length}
 use Rattle.token.specs.declared.Shape.{Shape}
 use Rattle.token.specs.declared.Shape.the-variants as shape
 use Rattle.number.specs.Number.{numberAt}
 use Rattle.number.specs.declared.Number as numbers
 use Rattle.number.specs.declared.Number.the-variants as number
-use Rattle.value.specs.Rules.{decimalSize, decimalLawful, timeBytes, dayWithin, zoneLawful, timeLawful, zonedLawful, lawful}
+use Rattle.rules.specs.Rules.{decimalSize, decimalLawful, timeBytes, dayWithin, zoneLawful, timeLawful, zonedLawful, lawful}
 use Rattle.value.specs.Fields.{needed, textAfter, textPayload, textAt, blobAfter, decimalAfter, timeField, qnameAfter, extentAt, ruled, fieldAt}
 use Rattle.value.specs.declared.Text as texts
 use Rattle.value.specs.declared.Field.{Field}

@@ -6,15 +6,14 @@ use mathlib.Core.Bool.{true, _||_}
 use mathlib.Core.List.{List, [], _∷_, _++_}
 use native.Mathlib.Omega.{arith}
 use lib.ListN.{length}
-use Rattle.scan.specs.Modes.{content, listing, declares, is, afterMetadata, afterMisc, afterValue}
-use Rattle.scan.specs.declared.Mode.{Mode}
-use Rattle.scan.specs.declared.Mode.the-variants as mode
-use Rattle.reader.specs.Rows.{event}
-use Rattle.reader.specs.Machine.{Scope, scope, elementsIn}
+use Rattle.modes.specs.Modes.{content, listing, declares, is, afterMetadata, afterMisc, afterValue}
+use Rattle.modes.specs.declared.Mode.{Mode}
+use Rattle.modes.specs.declared.Mode.the-variants as mode
+use Rattle.machine.specs.Rows.{event}
+use Rattle.machine.specs.Machine.{Scope, scope, elementsIn}
 use Rattle.grammar.specs.Points.{Point, point, referred, ended, headed, nesting}
 use Rattle.grammar.specs.Fields.{Byte}
-use Rattle.grammar.specs.Grammar.{Star, nil, cons, Optional, absent, present, Depth, flat, Qname, TextToken, Header, Standalone, XmlDecl, xmldecl, doctypedecl, Metadata, Misc, misc-metadata, cdsect, AtomicValue, Part, part-metadata, part-value, Attribute, attribute, Attributes, attributes, Typed, typed}
-use Rattle.grammar.specs.Grammar.{Document, document, Content, done, then, Item, an-element, a-cdsect, an-atomicvalue, a-metadata, a-nestedbinaryxml, element, nestedbinaryxml}
+use Rattle.grammar.specs.Grammar.{Star, nil, cons, Optional, absent, present, Depth, flat, Qname, TextToken, Header, Standalone, XmlDecl, xmldecl, doctypedecl, Metadata, Misc, misc-metadata, cdsect, AtomicValue, Part, part-metadata, part-value, Attribute, attribute, Attributes, attributes, Typed, typed, Document, document, Content, done, then, Item, an-element, a-cdsect, an-atomicvalue, a-metadata, a-nestedbinaryxml, element, nestedbinaryxml}
 
 -- two different constructors are equal: anything follows
 pub clash : {A : Type 0} → _≡_ {A = ℕ} 0 1 → A

@@ -8,7 +8,7 @@ use native.Mathlib.Omega.{arith}
 use lib.Dec.{ltb}
 use lib.ListN.{length, getD}
 use borrow.Author.Tests.{ltb-true, eqb-true}
-use Rattle.lists.proofs.Tests.{and-left, and-right}
+use Rattle.sequences.proofs.Tests.{and-left, and-right}
 use Rattle.token.specs.Tokens.{shapeOf}
 use Rattle.token.specs.declared.QnameNumber.{QnameNumber}
 use Rattle.token.specs.declared.Class.{Class}
@@ -18,24 +18,24 @@ use Rattle.token.specs.declared.Shape.the-variants as shape
 use Rattle.number.specs.Number.{numberAt}
 use Rattle.number.specs.declared.Number as numbers
 use Rattle.number.specs.declared.Number.the-variants as number
-use Rattle.value.specs.Rules.{lawful}
+use Rattle.rules.specs.Rules.{lawful}
 use Rattle.value.specs.Fields.{textAt, qnameAfter, extentAt, ruled, fieldAt}
 use Rattle.value.specs.declared.Text.the-variants as text
 use Rattle.value.specs.declared.Field.{Field}
 use Rattle.value.specs.declared.Field.the-variants as field
-use Rattle.scan.specs.Modes.{content, listing, is, allowed}
-use Rattle.scan.specs.declared.Mode.{Mode}
-use Rattle.scan.specs.declared.View.{View}
+use Rattle.modes.specs.Modes.{content, listing, is, allowed}
+use Rattle.modes.specs.declared.Mode.{Mode}
+use Rattle.modes.specs.declared.View.{View}
 use Rattle.scan.specs.declared.Room.{Room}
 use Rattle.scan.specs.declared.Step.{Step}
-use Rattle.reader.specs.Machine as machine
-use Rattle.reader.specs.Machine.{Scope, State, view, apply}
-use Rattle.reader.proofs.Keeps.{Goes}
-use Rattle.reader.proofs.Trace as traces
-use Rattle.reader.proofs.Trace.{Trace}
-use Rattle.reader.proofs.Codes.{coded, reference-shape}
-use Rattle.reader.proofs.Found as found
-use Rattle.reader.proofs.Found.{Stands, TextLeads, ValueClass, Found, found-step}
+use Rattle.machine.specs.Machine as machine
+use Rattle.machine.specs.Machine.{Scope, State, view, apply}
+use Rattle.machine.proofs.Goes.{Goes}
+use Rattle.machine.proofs.Trace as traces
+use Rattle.machine.proofs.Trace.{Trace}
+use Rattle.machine.proofs.Codes.{coded, reference-shape}
+use Rattle.machine.proofs.Found as found
+use Rattle.machine.proofs.Found.{Stands, TextLeads, ValueClass, Found, found-step}
 use Rattle.grammar.specs.Points.{Point, point, texted, referred}
 use Rattle.grammar.specs.Atomic.{Atomic}
 use Rattle.grammar.specs.Fields.{Byte}

@@ -12,18 +12,18 @@ use Rattle.token.specs.declared.Class.{Class}
 use Rattle.token.specs.declared.Class.the-variants as class
 use Rattle.value.specs.Fields.{textAt, extentAt, fieldAt}
 use Rattle.value.specs.declared.Text.the-variants as text
-use Rattle.scan.specs.Modes.{content, listing, declares, is, allowed, afterMetadata, afterMisc, afterValue}
+use Rattle.modes.specs.Modes.{content, listing, declares, is, allowed, afterMetadata, afterMisc, afterValue}
 use Rattle.scan.specs.Steps.{eventDue, textStep, nameStep, qnameStep, extensionStep, piStep, elementStep, attributeStep, valueStep, nestStep, classStep, tokenStep, declaredStep, stepAt}
-use Rattle.scan.specs.declared.Mode.{Mode}
-use Rattle.scan.specs.declared.Mode.the-variants as mode
-use Rattle.scan.specs.declared.View.{View}
+use Rattle.modes.specs.declared.Mode.{Mode}
+use Rattle.modes.specs.declared.Mode.the-variants as mode
+use Rattle.modes.specs.declared.View.{View}
 use Rattle.scan.specs.declared.Room.{Room}
 use Rattle.scan.specs.declared.Step.{Step}
 use Rattle.scan.specs.declared.Step.the-variants as step
-use Rattle.reader.specs.Rows.{event}
-use Rattle.reader.specs.Machine.{Scope, scope, State, state, namesIn, qnamesIn, apply}
-use Rattle.reader.specs.Machine as machine
-use Rattle.reader.proofs.Keeps.{Goes}
+use Rattle.machine.specs.Rows.{event}
+use Rattle.machine.specs.Machine.{Scope, scope, State, state, namesIn, qnamesIn, apply}
+use Rattle.machine.specs.Machine as machine
+use Rattle.machine.proofs.Goes.{Goes}
 use Rattle.grammar.specs.Points.{Point, referred, ended, headed, nesting, returned}
 use Rattle.grammar.specs.Fields.{Byte}
 use Rattle.grammar.specs.Grammar.{TextToken, texttoken, Qname, Header, Standalone, standalone, Metadata, a-namedef, namedef, a-qnamedef, qnamedef, an-extension, extension, flush-defined-name-tokens, Pi, pi, AtomicValue, atomicvalue, qname-value}

@@ -6,7 +6,7 @@ use mathlib.Core.List.{List, []}
 use native.Mathlib.Omega.{arith}
 use lib.ListN.{length}
 use Rattle.scan.specs.declared.Room.{Room}
-use Rattle.reader.specs.Machine.{started}
+use Rattle.machine.specs.Machine.{started}
 use Rattle.grammar.specs.Points.{Point, rowsAt, blank}
 use Rattle.grammar.specs.Grammar.{Depth, Document}
 use Rattle.grammar.specs.Accepts.{rowsIn}

@@ -5,8 +5,8 @@ use mathlib.Core.List.{List, map}
 use lib.ListN.{length}
 use Rattle.token.specs.Answers.{accepted}
 use Rattle.scan.specs.declared.Room.{Room}
-use Rattle.reader.specs.Machine.{State, reading}
-use Rattle.reader.specs.Events.{Event, eventOf}
+use Rattle.machine.specs.Machine.{State, reading}
+use Rattle.machine.specs.Events.{Event, eventOf}
 use Rattle.grammar.specs.Points.{Rows}
 
 -- the rows that a reading has completed

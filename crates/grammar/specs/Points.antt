@@ -3,8 +3,8 @@
 use Prim.Native.Nat.{ℕ, _+_, _*_}
 use mathlib.Core.List.{List, [], _∷_, _++_}
 use lib.ListN.{length}
-use Rattle.reader.specs.Rows.{NameRow, QnameRow, EventRow, nameRow, qnameRow, event}
-use Rattle.reader.specs.Machine.{rowOf}
+use Rattle.machine.specs.Rows.{NameRow, QnameRow, EventRow, nameRow, qnameRow, event}
+use Rattle.machine.specs.Machine.{rowOf}
 
 -- the version, and the rows of the names and of the qnames in force in the order of their numbers, are those of the
 -- innermost document; the rows are those of the whole document

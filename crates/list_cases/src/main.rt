@@ -5,7 +5,7 @@ ghost use mathlib.Core.Path.{_≡_};
 ghost use Prim.Native.Nat.{_≤_};
 ghost use lib.ListN.{length};
 use libc::STDOUT_FILENO;
-use lister::Answer;
+use lister_contract::Answer;
 
 const MARK: u32 = 2779096485;
 

@@ -1,6 +1,6 @@
 // Lists the pairs of records with equal meaning in the document on standard input: a line `records R pairs P`, then a line
 // for each pair, the earlier record first; or one line `refused C at N` (01, "Extracts worked by hand"). The contract of
-// `listing::print` says it byte for byte. One byte more than the limit is read, so that a document over it can be answered.
+// `print_listing::print` says it byte for byte. One byte more than the limit is read, so that a document over it can be answered.
 fn main() {
     let mut doc = [0u8; 65537];
     let size = io::read_full(libc::STDIN_FILENO, &mut doc);
@@ -8,6 +8,6 @@ fn main() {
         return;
     }
     let mut text = [0u8; 180280];
-    let from = listing::print(&doc[..size], &mut text);
+    let from = print_listing::print(&doc[..size], &mut text);
     console::write_output(&text[from..]);
 }

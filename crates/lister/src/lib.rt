@@ -3,20 +3,13 @@
 // pairs.
 ghost use mathlib.Core.Path.{_≡_};
 ghost use lib.ListN.{length};
-ghost use Rattle.reader.specs.Machine.{reading};
-ghost use Rattle.reader.specs.Contract.{roomIn};
+ghost use Rattle.machine.specs.Machine.{reading};
+ghost use Rattle.machine.specs.Contract.{roomIn};
 ghost use Prim.Native.Nat.{_≤_};
 ghost use Rattle.render.specs.Render.{roomFor};
-ghost use Rattle.lister.specs.Contract.{answer, Lists};
-ghost use Rattle.lister.specs.Tables.{Filled, TablesListed};
-
-// The answer number, its place or count, and how many records and pairs there are.
-pub struct Answer {
-    pub number: u32,
-    pub place: usize,
-    pub records: usize,
-    pub pairs: usize,
-}
+ghost use Rattle.lister_contract.specs.Contract.{answer, Lists};
+ghost use Rattle.lister_contract.specs.Tables.{Filled, TablesListed};
+use lister_contract::Answer;
 
 fn refused(number: u32, place: usize) -> Answer
     ensures { λ r. ⌜ r ≡ answer number place 0 0 ⌝ }
@@ -36,7 +29,7 @@ fn list_tables(
     names: &[u32],
     qnames: &[u32],
     events: &[u32],
-    read: reader::Answer,
+    read: machine::Answer,
     syms: &mut [u32],
     pairs: &mut [u32],
 ) -> Answer
@@ -48,7 +41,7 @@ fn list_tables(
     let mut starts = [1usize; 2049];
     let mut hashes = [1u64; 2049];
     let mut next = [1usize; 2048];
-    classes::name_classes(doc, names, read.names, &mut classes);
+    name_classes::name_classes(doc, names, read.names, &mut classes);
     let records = render::render(
         doc,
         names,

@@ -7,9 +7,9 @@ use mathlib.Core.List.{List, [], _∷_, _++_, map, append-assoc}
 use mathlib.Core.Bool.{Bool, true, false}
 use native.Mathlib.Omega.{arith}
 use lib.ListN.{length, getD, length-append, length-map}
-use Rattle.lists.specs.Lists.{Bytes}
-use Rattle.lists.proofs.Units.{bytes-none, bytes-first, bytes-rest}
-use Rattle.reader.specs.Facts.{Every, none, first}
+use Rattle.sequences.specs.Lists.{Bytes}
+use Rattle.sequences.proofs.Units.{bytes-none, bytes-first, bytes-rest}
+use Rattle.machine.specs.Facts.{Every, none, first}
 use Rattle.meaning.specs.Meaning.{Symbol, unit, opening, ending, attribute, closing, value, qname, same, sameMeaning}
 use Rattle.meaning.specs.Pairs.{pairsOf, In, here, there}
 use Rattle.meaning.specs.Codes.{mark, both, codeOf, codesOf, sizeOf, sizesOf, Classes, Coded}

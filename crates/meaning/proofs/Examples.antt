@@ -5,16 +5,16 @@ use mathlib.Core.List.{List, [], _∷_, _++_}
 use lib.ListN.{length}
 use Rattle.number.specs.Number.{front, numberAt}
 use Rattle.token.specs.Tokens.{classOf, shapeOf}
-use Rattle.value.specs.Rules.{lawful}
+use Rattle.rules.specs.Rules.{lawful}
 use Rattle.value.specs.Fields.{needed, textAt, extentAt, fieldAt}
 use Rattle.fields.specs.References.{nameAt, qnameAt}
 use Rattle.fields.specs.Headers.{headerAt}
 use Rattle.scan.specs.Steps.{eventDue, textStep, nameStep, qnameStep, extensionStep, piStep, elementStep, attributeStep, valueStep, nestStep, classStep, tokenStep, declaredStep, endStep, stepAt}
-use Rattle.reader.specs.Machine.{run, reading}
-use Rattle.reader.specs.Examples.{H, full}
+use Rattle.machine.specs.Machine.{run, reading}
+use Rattle.machine.specs.Examples.{H, full}
 use Rattle.numeral.specs.Numeral.{lastDigits, digitsIn, digits, fraction, numeral}
-use Rattle.text.specs.Text.{kindOf, signedText, shown, textOf}
-use Rattle.reader.specs.Events.{Event, texted, pi, qnamed, valued, nest, plain, nameText, eventOf, eventsOf}
+use Rattle.plan.specs.Text.{kindOf, signedText, shown, textOf}
+use Rattle.machine.specs.Events.{Event, texted, pi, qnamed, valued, nest, plain, nameText, eventOf, eventsOf}
 use Rattle.meaning.specs.Meaning.{unit, opening, ending, attribute, closing, value, qname, xmlns, declares, namedSymbols, plainSymbols, depthAfter, pieces, meanings, sameSymbol, sameMeaning}
 use Rattle.meaning.specs.Pairs.{Pair, pair, equalTo, pairsFrom, pairsOf}
 use Rattle.meaning.specs.Recut.{no-value, one-value, Recut, event, values}

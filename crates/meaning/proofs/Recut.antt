@@ -5,9 +5,9 @@ use mathlib.Core.Bool.{Bool, true, false, cond}
 use mathlib.Core.Option.{some}
 use mathlib.Core.List.{List, [], _∷_, _++_, map, append-assoc}
 use lib.ListN.{length}
-use Rattle.lists.specs.Lists.{unitsOf}
-use Rattle.reader.specs.Events.{Event, texted, valued}
-use Rattle.text.specs.Text.{textOf}
+use Rattle.sequences.specs.Lists.{unitsOf}
+use Rattle.machine.specs.Events.{Event, texted, valued}
+use Rattle.plan.specs.Text.{textOf}
 use Rattle.meaning.specs.Meaning.{Symbol, unit, Attribute, none-open, counted, skipped, unless, symbolsOf, attributeAfter, begins, inside, depthAfter, onto, newIf, rest, pieces, meanings, sameMeaning}
 use Rattle.meaning.specs.Pairs.{pairsOf}
 use Rattle.meaning.specs.Recut.{ValueRun, no-value, one-value, ChunkRun, no-chunk, one-chunk, Recut, none, event, values, chunks}

@@ -3,12 +3,12 @@ use Prim.Native.Nat.{ℕ}
 use mathlib.Core.Path.{_≡_, refl, sym, _∙_}
 use mathlib.Core.Logic.{_↔_}
 use mathlib.Core.List.{List, [], _∷_}
-use mathlib.Core.Bool.{true, false, cond, _&&_}
+use mathlib.Core.Bool.{true, false, cond}
 use native.Mathlib.Omega.{arith}
 use lib.Dec.{eqb}
 use lib.ListN.{getD}
 use borrow.Author.Tests.{eq-eqb, eqb-true}
-use Rattle.lists.proofs.Tests.{and-left, and-right}
+use Rattle.sequences.proofs.Tests.{and-left, and-right}
 use Rattle.meaning.specs.Meaning.{Symbol, unit, opening, ending, attribute, closing, value, qname, same, kindOf, firstOf, secondOf, sameSymbol, sameMeaning}
 
 pub never : {A : Type 0} → false ≡ true → A

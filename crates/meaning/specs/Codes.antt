@@ -3,7 +3,7 @@ use Prim.Native.Nat.{ℕ, _+_, _*_, _≤_, _<_}
 use mathlib.Core.Path.{_≡_}
 use mathlib.Core.List.{List, [], _∷_, _++_, map}
 use lib.ListN.{length}
-use Rattle.lists.specs.Lists.{Bytes}
+use Rattle.sequences.specs.Lists.{Bytes}
 use Rattle.meaning.specs.Meaning.{Symbol, unit, opening, ending, attribute, closing, value, qname}
 
 -- a mark: its kind, below 8, and its payload; a unit is below every mark

@@ -6,9 +6,9 @@ use mathlib.Core.Option.{Option, none, some}
 use mathlib.Core.List.{List, [], _∷_, _++_, map}
 use lib.Dec.{eqb}
 use lib.ListN.{take}
-use Rattle.lists.specs.Lists.{unitsOf}
-use Rattle.reader.specs.Events.{Event, texted, standalone, pi, qnamed, valued, nest, plain}
-use Rattle.text.specs.Text.{textOf}
+use Rattle.sequences.specs.Lists.{unitsOf}
+use Rattle.machine.specs.Events.{Event, texted, standalone, pi, qnamed, valued, nest, plain}
+use Rattle.plan.specs.Text.{textOf}
 
 pub data Symbol : Type 0 where
   -- a unit of text, of a value or of CDATA

@@ -5,9 +5,9 @@ use Prim.Native.Nat.{ℕ}
 use mathlib.Core.Path.{_≡_}
 use mathlib.Core.Option.{some}
 use mathlib.Core.List.{List, [], _∷_, _++_}
-use Rattle.lists.specs.Lists.{unitsOf}
-use Rattle.reader.specs.Events.{Event, texted, valued}
-use Rattle.text.specs.Text.{textOf}
+use Rattle.sequences.specs.Lists.{unitsOf}
+use Rattle.machine.specs.Events.{Event, texted, valued}
+use Rattle.plan.specs.Text.{textOf}
 
 -- a run of values that have a text, with the units of their joined text
 pub data ValueRun : List Event → List ℕ → Type 0 where

@@ -1,8 +1,8 @@
 -- Sums that are kept only up to a bound past the largest value: what is left of them is exact wherever it counts. Assumes nothing.
 use Prim.Native.Nat.{ℕ, zero, suc, _+_, _*_, _^_, _≤_, _<_, min}
-use mathlib.Core.Path.{_≡_, refl, sym, _∙_, ap}
+use mathlib.Core.Path.{_≡_}
 use native.Mathlib.Decide.{decLe}
-use native.Mathlib.Nat.{mul-le-mul, add-mul, mul-assoc, mul-comm, mul-right-comm}
+use native.Mathlib.Nat.{mul-le-mul, add-mul, mul-assoc, mul-comm}
 use native.Mathlib.Omega.{arith}
 
 -- what code multiplies stays small

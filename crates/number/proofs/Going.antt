@@ -1,16 +1,14 @@
 -- What is known at each turn of the loop that reads a number, and what each way out of it says. Assumes nothing.
 use Prim.Native.Nat.{ℕ, zero, suc, _+_, _-_, _*_, _%_, _≤_, _<_, min}
-use mathlib.Core.Path.{_≡_, refl, sym, _∙_, ap}
+use mathlib.Core.Path.{_≡_, refl, _∙_}
 use mathlib.Core.List.{List, [], _∷_}
 use native.Mathlib.Numerals.{add-one}
-use native.Mathlib.Nat.{mul-one, add-zero}
 use native.Mathlib.Omega.{arith}
 use lib.ListN.{length, getD, drop, drop-of-length-le}
 use lib.Seq.{drop-cons}
-use Rattle.lists.proofs.Tests.{tests}
+use Rattle.sequences.proofs.Tests.{tests}
 use Rattle.token.specs.Answers.{missing, badNumber, largest}
 use Rattle.number.specs.Number.{Front, spelled, unended, cut, after, front, judged, numberAt, Within}
-use Rattle.number.specs.declared.Number.{Number}
 use Rattle.number.specs.declared.Number.the-variants.{Is, Refused}
 use Rattle.number.proofs.Capped.{sum-capped, unit-capped, regrouped}
 

@@ -7,15 +7,14 @@ use mathlib.Core.List.{List, [], _∷_, _++_}
 use native.Mathlib.Decide.{decLt}
 use native.Mathlib.Nat.{pow-suc}
 use native.Mathlib.Omega.{arith}
-use lib.ListN.{length, drop, length-append}
+use lib.ListN.{length, drop}
 use borrow.Author.Tests.{ltb-true, ltb-false, leb-true}
 use lib.Dec.{ltb, leb}
-use Rattle.lists.specs.Lists.{Bytes}
-use Rattle.lists.proofs.Units.{bytes-first, bytes-rest}
-use Rattle.lists.proofs.Tests.{tests}
-use Rattle.token.specs.Answers.{missing, badNumber, largest}
+use Rattle.sequences.specs.Lists.{Bytes}
+use Rattle.sequences.proofs.Units.{bytes-first, bytes-rest}
+use Rattle.sequences.proofs.Tests.{tests}
+use Rattle.token.specs.Answers.{badNumber, largest}
 use Rattle.number.specs.Number.{Spelling, low, high, valueOf, Front, spelled, unended, cut, after, front, judged, numberAt, spellIn, shortest, sizeOf}
-use Rattle.number.specs.declared.Number.{Number}
 use Rattle.number.specs.declared.Number.the-variants.{Is, Refused}
 
 -- reading a spelling gives its value and uses its bytes, whatever follows

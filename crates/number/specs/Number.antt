@@ -1,6 +1,6 @@
 -- Multi-byte numbers (004, section 2.3.2; 01, "Document rules"): what a spelling means, what stands at a place, and the
 -- shortest spelling of a value.
-use Prim.Native.Nat.{ℕ, zero, suc, _+_, _-_, _*_, _/_, _%_, _≤_, _<_}
+use Prim.Native.Nat.{ℕ, zero, suc, _+_, _*_, _/_, _%_, _≤_, _<_}
 use mathlib.Core.Bool.{cond}
 use mathlib.Core.List.{List, [], _∷_}
 use lib.Dec.{ltb, leb}

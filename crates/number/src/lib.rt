@@ -3,7 +3,7 @@
 ghost use mathlib.Core.Path.{_≡_};
 ghost use Prim.Native.Nat.{_+_, _*_, _≤_, _<_, min};
 ghost use lib.ListN.{length};
-ghost use Rattle.number.specs.Number.{numberAt, Within, shortest, sizeOf};
+ghost use Rattle.number.specs.Number.{numberAt, Within, sizeOf};
 
 pub enum Number {
     Is { value: usize, next: usize },

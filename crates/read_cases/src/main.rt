@@ -16,7 +16,7 @@ fn run(i: usize) {
     io::write_all(STDOUT_FILENO, &path[..length]);
     io::write_all(STDOUT_FILENO, b"\n");
     let mut text = [0u8; 239771];
-    let from = report::print(&doc[..size], &mut text);
+    let from = print_reading::print(&doc[..size], &mut text);
     io::write_all(STDOUT_FILENO, &text[from..]);
 }
 

@@ -1,4 +1,4 @@
-// Reads the document on standard input and prints the answer and the rows: the contract of `report::print` says it byte for
+// Reads the document on standard input and prints the answer and the rows: the contract of `print_reading::print` says it byte for
 // byte. One byte more than the limit is read, so that a document over it can be answered.
 fn main() {
     let mut doc = [0u8; 65537];
@@ -7,6 +7,6 @@ fn main() {
         return;
     }
     let mut text = [0u8; 239771];
-    let from = report::print(&doc[..size], &mut text);
+    let from = print_reading::print(&doc[..size], &mut text);
     console::write_output(&text[from..]);
 }

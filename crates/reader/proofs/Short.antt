@@ -6,16 +6,16 @@ use lib.ListN.{length, getD}
 use Rattle.token.specs.declared.QnameNumber.{QnameNumber}
 use Rattle.scan.specs.Bounds.{Fine}
 use Rattle.scan.specs.Steps.{stepAt}
-use Rattle.scan.specs.Common.{commonStep}
-use Rattle.scan.specs.declared.Mode.the-variants.{Content}
-use Rattle.scan.specs.declared.View.{View}
+use Rattle.common.specs.Common.{commonStep}
+use Rattle.modes.specs.declared.Mode.the-variants.{Content}
+use Rattle.modes.specs.declared.View.{View}
 use Rattle.scan.specs.declared.Room.{Room}
-use Rattle.scan.specs.declared.Common.{Common}
-use Rattle.scan.specs.declared.Common.the-variants.{End, Begin, Fixed}
+use Rattle.common.specs.declared.Common.{Common}
+use Rattle.common.specs.declared.Common.the-variants.{End, Begin, Fixed}
 use Rattle.scan.proofs.Fine.{found-fine}
-use Rattle.reader.specs.Machine.{Result}
-use Rattle.reader.specs.Tables.{Tables, tables, put4, rowAt, evented, entered, closed, Turned}
-use Rattle.reader.proofs.Keeps.{Goes}
+use Rattle.machine.specs.Machine.{Result}
+use Rattle.rows.specs.Tables.{Tables, tables, put4, rowAt, evented, entered, closed, Turned}
+use Rattle.machine.proofs.Goes.{Goes}
 use Rattle.reader.proofs.Walks.{Walks, going, nearer}
 
 module _ (doc : List ℕ) (v : View) (room : Room) {c x : Common} (e : commonStep doc v room c ≡ stepAt doc v room) (g : c ≡ x) where

@@ -1,27 +1,26 @@
 -- The loop of reading: the machine's run from the state reached is the run from the start; it never runs out of steps.
 -- Assumes nothing.
-use Prim.Native.Nat.{ℕ, zero, suc, _+_, _*_, _≤_, _<_}
-use mathlib.Core.Path.{_≡_, refl, sym, _∙_, ap, subst}
-use mathlib.Core.List.{List, [], _∷_, _++_}
+use Prim.Native.Nat.{ℕ, zero, suc, _+_, _≤_, _<_}
+use mathlib.Core.Path.{_≡_, refl, sym, _∙_, subst}
+use mathlib.Core.List.{List, [], _∷_}
 use native.Mathlib.Omega.{arith}
 use lib.Dec.{T}
 use lib.ListN.{length}
 use types.Run.{OneOf}
 use denote.Enum.Declared.{tagOf}
-use Rattle.lists.specs.Lists.{overlay, Front}
-use Rattle.lists.proofs.Match.{among, one-of}
+use Rattle.sequences.proofs.Match.{among, one-of}
 use Rattle.scan.proofs.Step.{the-type}
 use Rattle.scan.specs.Bounds.{Fine}
 use Rattle.scan.specs.Steps.{stepAt}
-use Rattle.scan.specs.declared.View.{View}
+use Rattle.modes.specs.declared.View.{View}
 use Rattle.scan.specs.declared.Room.{Room}
 use Rattle.scan.specs.declared.Step.{Step}
 use Rattle.scan.specs.declared.Step.the-variants as step
-use Rattle.reader.specs.Rows.{flatNames, flatQnames, flatEvents}
-use Rattle.reader.specs.Machine.{Scope, State, view, returned, apply, Result, result, continued, run, started}
-use Rattle.reader.specs.Contract.{answerOf, Reads}
-use Rattle.reader.specs.Tables.{Tables, tables, answerAt, Turned, Held, Begins}
-use Rattle.reader.proofs.Keeps.{Stored, Kept, Goes, keep, same-lengths}
+use Rattle.machine.specs.Machine.{State, view, apply, Result, result, run, started}
+use Rattle.machine.specs.Contract.{Reads}
+use Rattle.rows.specs.Tables.{Tables, tables, answerAt, Turned, Held, Begins}
+use Rattle.steps.proofs.Keeps.{Stored, Kept, keep, same-lengths}
+use Rattle.machine.proofs.Goes.{Goes, passes, stepped, stopped}
 
 -- a step whose tag is not that of `Stop`
 goes-by : (x : Step) → T (among (1 ∷ 2 ∷ 3 ∷ 4 ∷ 5 ∷ 6 ∷ 7 ∷ 8 ∷ 9 ∷ 10 ∷ 11 ∷ []) (tagOf the-type x)) → Goes x
@@ -40,51 +39,6 @@ goes-by (step.Leave next) h = tt
 
 pub goes : (x : Step) → OneOf (1 ∷ 2 ∷ 3 ∷ 4 ∷ 5 ∷ 6 ∷ 7 ∷ 8 ∷ 9 ∷ 10 ∷ 11 ∷ []) (tagOf the-type x) → Goes x
 goes x h = goes-by x (one-of (1 ∷ 2 ∷ 3 ∷ 4 ∷ 5 ∷ 6 ∷ 7 ∷ 8 ∷ 9 ∷ 10 ∷ 11 ∷ []) (tagOf the-type x) h)
-
-pub continue-on : (version : ℕ) (s : State) (k : State → Result) (x : Step) → Goes x → continued version s k x ≡ k (apply s x)
-continue-on version s k (step.Stop number place) g = absurd g
-continue-on version s k (step.Name place units next) g = refl
-continue-on version s k (step.Qname uri prefix local next) g = refl
-continue-on version s k (step.Skip next) g = refl
-continue-on version s k (step.Flush next) g = refl
-continue-on version s k (step.Event token a b mode next) g = refl
-continue-on version s k (step.Refer token number mode next) g = refl
-continue-on version s k (step.Open number next) g = refl
-continue-on version s k (step.Pi target start next) g = refl
-continue-on version s k (step.Close next) g = refl
-continue-on version s k (step.Nest version′ next) g = refl
-continue-on version s k (step.Leave next) g = refl
-
--- a step passes at least one byte
-returns-past : (s : State) (os : List Scope) (next : ℕ) → 0 < length os → s .at < next → s .at < returned s os next .at
-returns-past s [] next d l = absurd (let q : ⊥ = omega arith in q)
-returns-past s (o ∷ os) next d l = l
-
-pub passes : (size : ℕ) (room : Room) (s : State) (x : Step) → Goes x → Fine size (view s) room x → s .at < apply s x .at
-passes size room s (step.Stop number place) g f = absurd g
-passes size room s (step.Name place units next) g f = f .0
-passes size room s (step.Qname uri prefix local next) g f = f .0
-passes size room s (step.Skip next) g f = f .0
-passes size room s (step.Flush next) g f = f .0
-passes size room s (step.Event token a b mode next) g f = f .0
-passes size room s (step.Refer token number mode next) g f = f .0
-passes size room s (step.Open number next) g f = f .0
-passes size room s (step.Pi target start next) g f = f .0
-passes size room s (step.Close next) g f = f .0
-passes size room s (step.Nest version next) g f = f .0
-passes size room s (step.Leave next) g f = returns-past s (s .outer) next (f .2) (f .0)
-
--- one step of the machine
-pub stepped : (left : ℕ) (doc : List ℕ) (room : Room) (version : ℕ) (s : State) (x : Step) → x ≡ stepAt doc (view s) room → Goes x
-    → run left doc room version (apply s x) ≡ run (suc left) doc room version s
-unfolding run
-stepped left doc room version s x e g =
-    sym (ap (continued version s (λ t. run left doc room version t)) (sym e) ∙ continue-on version s (λ t. run left doc room version t) x g)
-
-pub stopped : (left : ℕ) (doc : List ℕ) (room : Room) (version : ℕ) (s : State) (number place : ℕ) → step.Stop number place ≡ stepAt doc (view s) room
-    → result number place version s ≡ run (suc left) doc room version s
-unfolding run
-stopped left doc room version s number place e = ap (continued version s (λ t. run left doc room version t)) e
 
 -- what holds at each turn of the loop
 pub record Walks (doc : List ℕ) (room : Room) (version : ℕ) (end : Result) (n₀ q₀ e₀ : List ℕ) (t : Tables) (v : View) : Type 0 where

@@ -3,29 +3,16 @@ ghost use mathlib.Core.Path.{_≡_};
 ghost use Prim.Native.Nat.{suc, min};
 ghost use lib.ListN.{length};
 ghost use Rattle.token.specs.Entries.{Listed};
-ghost use Rattle.reader.specs.Machine.{blank, view, started, result, run, reading};
-ghost use Rattle.reader.specs.Contract.{roomIn, answerOf, Reads};
-ghost use Rattle.reader.specs.Tables.{answerAt, Begins};
+ghost use Rattle.machine.specs.Machine.{blank, view, started, result, run, reading};
+ghost use Rattle.machine.specs.Contract.{roomIn, answerOf, Reads};
+ghost use Rattle.rows.specs.Tables.{answerAt, Begins};
+use common::Common;
 use fields::Header;
-use scan::Common;
-use scan::Mode;
+use machine::Answer;
+use modes::Mode;
+use modes::View;
 use scan::Room;
 use scan::Step;
-use scan::View;
-
-mod steps;
-mod tables;
-mod views;
-
-// The answer number and its place, the rows in each table, and the outer version (0 until its whole header is read).
-pub struct Answer {
-    pub number: u32,
-    pub place: usize,
-    pub names: usize,
-    pub qnames: usize,
-    pub events: usize,
-    pub version: usize,
-}
 
 // Before the first token, which stands after the outer header.
 fn first_view(version: usize, next: usize) -> View
@@ -83,7 +70,7 @@ fn walk(
     let mut frames = [0usize; 48];
     let mut v = first_view(version, next);
     loop {
-        let common = scan::common_at(table, doc, v, room);
+        let common = common::common_at(table, doc, v, room);
         match common {
             Common::Other => {}
             Common::End => {

@@ -1,10 +1,6 @@
-pub mod Going
-pub mod Texts
 pub mod Rows
 pub mod Tokens
 pub mod Names
-pub mod MarkLaws
-pub mod Rooms
 pub mod Sums
 pub mod Says
 pub mod Loop

@@ -8,9 +8,9 @@ use native.Mathlib.Numerals.{add-one}
 use lib.Dec.{eqb}
 use lib.ListN.{length, getD, drop, set, length-append, length-map, drop-of-length-le}
 use borrow.Author.Tests.{eqb-true, ne-eqb}
-use Rattle.lists.specs.Lists.{Bytes}
-use Rattle.reader.specs.Rows.{EventRow, event}
-use Rattle.reader.specs.Events.{Event, eventOf}
+use Rattle.sequences.specs.Lists.{Bytes}
+use Rattle.machine.specs.Rows.{EventRow, event}
+use Rattle.machine.specs.Events.{Event, eventOf}
 use Rattle.classes.specs.Tables.{nameRowsIn, qnameRowsIn, eventRowsIn}
 use Rattle.classes.proofs.Tables.{event-rows-from, length-event-rows}
 use Rattle.meaning.specs.Meaning.{Symbol, Attribute, none-open, symbolsOf, attributeAfter, depthAfter, inside, begins, onto, newIf, pieces, rest, meanings}
@@ -18,12 +18,13 @@ use Rattle.meaning.specs.Codes.{codesOf}
 use Rattle.meaning.proofs.Codes.{codes-append}
 use Rattle.hash.specs.Hash.{hashFrom, hashOf}
 use Rattle.render.specs.declared.Progress.{Progress}
-use Rattle.render.specs.Render.{Renderable, Rendered, eventsIn, classIn, roomFor}
-use Rattle.render.specs.Store.{Put}
-use Rattle.render.specs.Codes.{attributeOf, openingIn, codesBy, rowBy, beginsBy, depthBy, roomBy, RowFits}
-use Rattle.render.specs.Marks.{MarksOf}
+use Rattle.render.specs.Render.{Renderable, Rendered, eventsIn, roomFor}
+use Rattle.marks.specs.Names.{classIn}
+use Rattle.symbols.specs.Store.{Put}
+use Rattle.render.specs.Codes.{attributeOf, codesBy, rowBy, beginsBy, depthBy, roomBy, RowFits}
+use Rattle.marks.specs.Marks.{openingIn, MarksOf}
 use Rattle.render.specs.Effects.{RowDone}
-use Rattle.render.proofs.Going.{put-put, put-none, put-long, put-as, put-set}
+use Rattle.symbols.proofs.Going.{put-put, put-none, put-long, put-as, put-set}
 use Rattle.render.proofs.Tokens.{Ahead, ahead-of, ahead-le, fits-room}
 use Rattle.render.proofs.Says.{Says, says, row-few}
 use Rattle.render.proofs.Sums.{flat, sums, later, flat-snoc, sums-long, flat-new, sums-new, hashes-new, hash-new, cut-here, parts-here, hashes-here}

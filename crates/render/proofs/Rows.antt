@@ -2,21 +2,23 @@
 use Prim.Native.Nat.{ℕ, _+_, _-_, _*_, _%_, _≤_, _<_}
 use mathlib.Core.Path.{_≡_, refl, sym, ap, _∙_}
 use mathlib.Core.Bool.{Bool, true, false, cond}
-use mathlib.Core.List.{List, [], _∷_, _++_, map, append-nil}
+use mathlib.Core.List.{List, [], _∷_, _++_, append-nil}
 use native.Mathlib.Omega.{arith}
 use lib.Dec.{eqb, leb}
 use lib.ListN.{length, getD, take, drop, set, length-take}
 use borrow.Author.Tests.{eq-eqb, ne-eqb, lt-ltb, le-ltb, le-leb, lt-leb}
-use Rattle.lists.specs.Lists.{part, unitsOf}
-use Rattle.text.specs.Text.{textOf}
+use Rattle.sequences.specs.Lists.{part, unitsOf}
+use Rattle.plan.specs.Text.{textOf}
 use Rattle.meaning.specs.Codes.{mark}
 use Rattle.hash.specs.Hash.{hashFrom}
-use Rattle.render.specs.declared.values.Cursor.{Cursor}
+use Rattle.symbols.specs.declared.Cursor.{Cursor}
 use Rattle.render.specs.declared.Progress.{Progress}
-use Rattle.render.specs.Store.{PutHashed}
-use Rattle.render.specs.Codes.{isValue, valueCodes, openingIn, declaredIn, closeBy, countedBy, valueBy, codesBy, unlessOut, rowBy, depthBy, attributeBy, roomBy}
+use Rattle.symbols.specs.Store.{PutHashed}
+use Rattle.render.specs.Codes.{isValue, closeBy, countedBy, valueBy, codesBy, unlessOut, rowBy, depthBy, attributeBy, roomBy}
+use Rattle.symbols.specs.Values.{valueCodes}
+use Rattle.marks.specs.Marks.{openingIn, declaredIn}
 use Rattle.render.specs.Effects.{cursorOf, Begun, RowPut, RowDone}
-use Rattle.render.proofs.Going.{put-none, put-as, put-set}
+use Rattle.symbols.proofs.Going.{put-none, put-as, put-set}
 
 -- ---- rooms
 
@@ -154,11 +156,6 @@ module _ (doc marks : List ℕ) (token a b : ℕ) where
         go : (t : Bool) → cond {A = List ℕ} t [] [] ≡ []
         go true = refl
         go false = refl
-
--- the mark of a value without text, and those of its bytes
-pub value-put : (token v : ℕ) (p : List ℕ) → v ≡ token → (65541 + 8 * v) ∷ map (mark 6) p ≡ mark 5 token ∷ map (mark 6) p
-unfolding mark
-value-put token v p e = let f : 65541 + 8 * v ≡ 65536 + 8 * token + 5 = omega (arith, e) in rw f
 
 -- ---- rows by their token
 

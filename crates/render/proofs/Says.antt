@@ -9,29 +9,31 @@ use native.Mathlib.Omega.{arith}
 use lib.Dec.{eqb, leb}
 use lib.ListN.{length, getD, length-append, length-map, length-take}
 use borrow.Author.Tests.{eqb-true, eq-eqb, ne-eqb, leb-true, leb-false}
-use Rattle.lists.specs.Lists.{Bytes, part, unitsOf}
-use Rattle.lists.proofs.Units.{bytes-take, bytes-drop}
+use Rattle.sequences.specs.Lists.{Bytes, part, unitsOf}
+use Rattle.sequences.proofs.Units.{bytes-take, bytes-drop}
 use Rattle.token.specs.Tokens.{classOf, shapeOf}
 use Rattle.token.specs.declared.Class.the-variants as class
-use Rattle.value.specs.Rules.{lawful}
+use Rattle.rules.specs.Rules.{lawful}
 use Rattle.value.proofs.Fields.{payload-lawful, not-qname}
-use Rattle.reader.specs.Rows.{EventRow, event}
-use Rattle.reader.specs.Events.{Event, texted, qnamed, valued, plain, eventBy, eventOf}
-use Rattle.reader.specs.Facts as facts
-use Rattle.reader.specs.Facts.{textTokens, qnameTokens, bareTokens, EventFits}
-use Rattle.reader.proofs.Facts.{every-one-of}
-use Rattle.text.specs.Text.{textOf}
+use Rattle.machine.specs.Rows.{EventRow, event}
+use Rattle.machine.specs.Events.{Event, texted, qnamed, valued, plain, eventBy, eventOf}
+use Rattle.machine.specs.Facts as facts
+use Rattle.machine.specs.Facts.{textTokens, qnameTokens, bareTokens, EventFits}
+use Rattle.machine.proofs.Facts.{every-one-of}
+use Rattle.plan.specs.Text.{textOf}
 use Rattle.classes.specs.Tables.{nameRowsIn, qnameRowsIn}
 use Rattle.meaning.specs.Meaning.{Symbol, Attribute, none-open, counted, skipped, unit, attribute, value, qname, declares, closed, unless, shownAs, namedSymbols, plainSymbols, symbolsOf, attributeAfter, opens, closes}
 use Rattle.meaning.specs.Codes.{mark, both, codesOf}
 use Rattle.meaning.proofs.Codes.{codes-append}
-use Rattle.render.specs.Render.{Renderable, classIn}
-use Rattle.render.specs.Codes.{attributeOf, uriAt, prefixAt, localAt, pairOf, Named, declaresAt, valueCodes, isValue, openingIn, declaredIn, closeBy, countedBy, valueBy, codesBy, rowBy, attributeBy, roomBy, RowFits}
-use Rattle.render.specs.Marks.{MarksOf}
+use Rattle.render.specs.Render.{Renderable}
+use Rattle.marks.specs.Names.{classIn, uriAt, prefixAt, localAt, pairOf, Named, declaresAt}
+use Rattle.render.specs.Codes.{attributeOf, isValue, closeBy, countedBy, valueBy, codesBy, rowBy, attributeBy, roomBy, RowFits}
+use Rattle.symbols.specs.Values.{valueCodes}
+use Rattle.marks.specs.Marks.{openingIn, declaredIn, MarksOf}
 use Rattle.render.proofs.Rows.{close-few, is-value}
-use Rattle.render.proofs.Rooms.{text-room}
-use Rattle.render.proofs.MarkLaws.{mark-opening, mark-attribute, mark-declares, mark-counts, mark-qname}
-use Rattle.render.proofs.Texts.{units-long}
+use Rattle.symbols.proofs.Rooms.{text-room}
+use Rattle.marks.proofs.MarkLaws.{mark-opening, mark-attribute, mark-declares, mark-counts, mark-qname}
+use Rattle.symbols.proofs.Texts.{units-long}
 use Rattle.render.proofs.Tokens.{value-code, text-there, payload-there}
 use Rattle.render.proofs.Names.{named-row, named-event, pair-both}
 

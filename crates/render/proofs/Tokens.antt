@@ -8,7 +8,7 @@ use native.Mathlib.Omega.{arith}
 use lib.Dec.{eqb, ltb}
 use lib.ListN.{length}
 use borrow.Author.Tests.{eqb-true, ltb-true}
-use Rattle.lists.proofs.Tests.{and-left, and-right}
+use Rattle.sequences.proofs.Tests.{and-left, and-right}
 use Rattle.token.specs.Tokens.{Token, token, tokens, find, classOf, shapeOf}
 use Rattle.token.specs.declared.Class.{Class}
 use Rattle.token.specs.declared.Class.the-variants as class
@@ -17,10 +17,10 @@ use Rattle.value.specs.Fields.{textAt, fieldAt}
 use Rattle.value.specs.declared.Text.the-variants as text
 use Rattle.value.specs.declared.Field.the-variants as field
 use Rattle.value.proofs.Fields.{field-inside, payload-inside, text-lies, is-lies}
-use Rattle.reader.specs.Rows.{EventRow}
-use Rattle.reader.specs.Facts as facts
-use Rattle.reader.specs.Facts.{textTokens, qnameTokens, bareTokens, EventFits, Placed}
-use Rattle.reader.proofs.Facts.{every-one-of}
+use Rattle.machine.specs.Rows.{EventRow}
+use Rattle.machine.specs.Facts as facts
+use Rattle.machine.specs.Facts.{textTokens, qnameTokens, bareTokens, EventFits, Placed}
+use Rattle.machine.proofs.Facts.{every-one-of}
 use Rattle.render.specs.Codes.{roomBy}
 use Rattle.render.proofs.Rows.{room-value}
 

@@ -5,9 +5,9 @@ use mathlib.Core.Bool.{cond}
 use mathlib.Core.List.{List, [], _∷_}
 use lib.Dec.{eqb}
 use Rattle.hash.specs.Hash.{hashFrom}
-use Rattle.render.specs.declared.values.Cursor.{Cursor}
+use Rattle.symbols.specs.declared.Cursor.{Cursor}
 use Rattle.render.specs.declared.Progress.{Progress}
-use Rattle.render.specs.Store.{Put}
+use Rattle.symbols.specs.Store.{Put}
 use Rattle.render.specs.Codes.{rowBy, beginsBy, depthBy, attributeBy}
 
 abbrev pub cursorOf : Progress → Cursor

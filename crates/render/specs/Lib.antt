@@ -1,5 +1,3 @@
 pub mod Render
-pub mod Store
 pub mod Codes
 pub mod Effects
-pub mod Marks

@@ -3,24 +3,20 @@ use Prim.Native.Nat.{ℕ, _+_, _*_, _≤_, _<_}
 use mathlib.Core.Path.{_≡_}
 use mathlib.Core.List.{List, map}
 use lib.ListN.{length, getD}
-use Rattle.lists.specs.Lists.{Front}
-use Rattle.reader.specs.Events.{Event, eventOf}
-use Rattle.reader.specs.Facts.{Every, NameFits, QnameFits, Placed}
-use Rattle.form.specs.Places.{numberOf}
+use Rattle.sequences.specs.Lists.{Front}
+use Rattle.machine.specs.Events.{Event, eventOf}
+use Rattle.machine.specs.Facts.{Every, NameFits, QnameFits, Placed}
 use Rattle.classes.specs.Tables.{nameRowsIn, qnameRowsIn, eventRowsIn}
-use Rattle.classes.specs.Classes.{textsOf, nameClasses}
+use Rattle.classes.specs.Classes.{nameClasses}
 use Rattle.meaning.specs.Meaning.{meanings}
 use Rattle.meaning.specs.Codes.{codesOf}
 use Rattle.twins.specs.Parts.{partAt, partsOf, Cut}
 use Rattle.hash.specs.Hash.{hashOf}
+use Rattle.marks.specs.Names.{classIn}
 
 -- the events of so many rows, names by text
 unfoldable pub eventsIn : List ℕ → List ℕ → List ℕ → List ℕ → ℕ → ℕ → ℕ → List Event
 eventsIn doc names qnames events rows qrows count = map (eventOf doc (nameRowsIn rows names) (qnameRowsIn qrows qnames)) (eventRowsIn count events)
-
--- the class of a text among those of the rows of names
-abbrev pub classIn : List ℕ → List ℕ → ℕ → List ℕ → ℕ
-classIn doc names rows t = numberOf (textsOf doc (nameRowsIn rows names)) t
 
 -- rows that reading has made of the document, and the classes of the names
 pub record Renderable (doc names qnames events classes : List ℕ) (rows qrows count : ℕ) : Type 0 where

@@ -6,17 +6,15 @@ ghost use mathlib.Core.List.{[], _∷_, _++_};
 ghost use Prim.Native.Nat.{_+_, _-_, _*_, _≤_, _<_};
 ghost use lib.Dec.{leb};
 ghost use lib.ListN.{length, getD};
-ghost use Rattle.lists.specs.Lists.{part, unitsOf};
-ghost use Rattle.blobtext.specs.Blobtext.{Alphabet};
+ghost use Rattle.sequences.specs.Lists.{part, unitsOf};
+ghost use Rattle.base64.specs.Base64.{Alphabet};
 ghost use Rattle.meaning.specs.Codes.{mark};
-ghost use Rattle.render.specs.Store.{PutHashed};
-ghost use Rattle.render.specs.Codes.{openingIn, declaredIn, closeBy, countedBy, valueBy, unlessOut, rowBy, depthBy, attributeBy, roomBy, RowFits};
+ghost use Rattle.symbols.specs.Store.{PutHashed};
+ghost use Rattle.marks.specs.Marks.{openingIn, declaredIn};
+ghost use Rattle.render.specs.Codes.{closeBy, countedBy, valueBy, unlessOut, rowBy, depthBy, attributeBy, roomBy, RowFits};
 ghost use Rattle.render.specs.Effects.{cursorOf, movedTo, attributed, Begun, RowPut, RowDone};
 ghost use Rattle.render.specs.Render.{Renderable, Rendered, roomFor};
-use values::Cursor;
-
-mod marks;
-mod values;
+use symbols::Cursor;
 
 // ---- rows
 
@@ -90,7 +88,7 @@ fn open(marks: &[u32; 1024], syms: &mut [u32], p: Progress, row: usize) -> Progr
     ensures { λ r. ⌜ RowPut (openingIn (now (marks .entry)) row ∷ []) (p .attribute) (p .depth + 1) (now (syms .entry)) p (now (syms .exit)) r ⌝ }
 {
     let mark = marks[row - 1] % 2147483648;
-    let i = values::put_one(syms, cursor_of(p), mark);
+    let i = symbols::put_one(syms, cursor_of(p), mark);
     Progress {
         at: i.at,
         hash: i.hash,
@@ -108,7 +106,7 @@ fn close(syms: &mut [u32], p: Progress) -> Progress
     if p.depth == 0 {
         return p;
     }
-    let i = values::put_one(syms, cursor_of(p), 65539);
+    let i = symbols::put_one(syms, cursor_of(p), 65539);
     Progress {
         at: i.at,
         hash: i.hash,
@@ -124,7 +122,7 @@ fn put_close(syms: &mut [u32], i: Cursor, attribute: usize) -> Cursor
     ensures { λ r. ⌜ PutHashed (now (syms .entry)) i (closeBy attribute) (now (syms .exit)) r ⌝ }
 {
     if attribute == 1 {
-        return values::put_one(syms, i, 65540);
+        return symbols::put_one(syms, i, 65540);
     }
     i
 }
@@ -150,7 +148,7 @@ fn put_attribute(marks: &[u32; 1024], syms: &mut [u32], p: Progress, row: usize)
     if 2147483648 <= mark {
         return with_attribute(moved(p, i), 2);
     }
-    with_attribute(moved(p, values::put_one(syms, i, mark + 1)), 1)
+    with_attribute(moved(p, symbols::put_one(syms, i, mark + 1)), 1)
 }
 
 // ENDATTRIBUTES.
@@ -173,7 +171,7 @@ fn put_chunk(doc: &[u8], syms: &mut [u32], p: Progress, place: usize, units: usi
         return p;
     }
     let end = place + 2 * units;
-    moved(p, values::put_units(&doc[place..end], syms, cursor_of(p)))
+    moved(p, symbols::put_units(&doc[place..end], syms, cursor_of(p)))
 }
 
 // XSD-QNAME or another value; nothing for a byte that is no token, nor within a skipped attribute.
@@ -192,13 +190,13 @@ fn put_valued(
     ensures { λ r. ⌜ PutHashed (now (syms .entry)) i (countedBy (now (doc .entry)) (now (marks .entry)) token a b) (now (syms .exit)) r ⌝ }
 {
     if token == 0x8C {
-        return values::put_one(syms, i, marks[a - 1] % 2147483648 + 2);
+        return symbols::put_one(syms, i, marks[a - 1] % 2147483648 + 2);
     }
     if token == 0 {
         return i;
     }
     let end = a + b;
-    values::put_payload(alphabet, token as u8, &doc[a..end], syms, i)
+    symbols::put_payload(alphabet, token as u8, &doc[a..end], syms, i)
 }
 
 // A value, within a record and outside of a skipped attribute.
@@ -281,7 +279,7 @@ fn put_row(
     if token == 0xF7 {
         return close(syms, p);
     }
-    let b = classes::cell(events, 4 * k + 3);
+    let b = slices::cell(events, 4 * k + 3);
     put_other(alphabet, doc, marks, syms, p, token, a, b)
 }
 
@@ -305,7 +303,7 @@ pub fn render(
     ensures { λ r. ⌜ Rendered (now (doc .entry)) (now (names .entry)) (now (qnames .entry)) (now (events .entry)) rows qrows count
         (now (syms .exit)) (now (starts .exit)) (now (hashes .exit)) r ⌝ }
 {
-    let alphabet = blobtext::alphabet();
+    let alphabet = base64::alphabet();
     let mut marks = [1u32; 1024];
     marks::fill(doc, names, qnames, classes, rows, qrows, &mut marks);
     let mut k = 0;
@@ -317,8 +315,8 @@ pub fn render(
         attribute: 0,
     };
     while k < count {
-        let token = classes::cell(events, 4 * k);
-        let a = classes::cell(events, 4 * k + 2);
+        let token = slices::cell(events, 4 * k);
+        let a = slices::cell(events, 4 * k + 2);
         p = put_row(
             &alphabet,
             doc,

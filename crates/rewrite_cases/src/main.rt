@@ -4,7 +4,7 @@ ghost use mathlib.Core.Path.{_≡_};
 ghost use Prim.Native.Nat.{_≤_};
 ghost use lib.ListN.{length};
 use libc::STDOUT_FILENO;
-use rewriter::Answer;
+use rewriter_contract::Answer;
 
 const MARK: u8 = 165;
 

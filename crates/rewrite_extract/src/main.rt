@@ -1,12 +1,12 @@
 // Rewrites the document on standard input to its canonical form on standard output. A refusal writes nothing there, and one
 // line `refused C at N` to standard error. One byte more than the limit is read, so that a document over it can be answered.
 use libc::STDERR_FILENO;
-use rewriter::Answer;
+use rewriter_contract::Answer;
 
 // The longest line has 43 bytes.
 fn write_refusal(a: Answer) {
     let mut text = [0u8; 43];
-    let from = lines::put_line(
+    let from = print_lines::put_line(
         &mut text,
         43,
         b"refused ",

@@ -1,28 +1,28 @@
 -- What the walk writes for an event is what the form says, and what it keeps is what the form has defined. Assumes nothing.
-use Prim.Native.Nat.{ℕ, zero, suc, _+_, _-_, _*_, _≤_, _<_}
-use mathlib.Core.Path.{_≡_, refl, sym, _∙_, ap, subst}
-use mathlib.Core.Bool.{Bool, true, false, cond}
-use mathlib.Core.Option.{Option, none, some}
+use Prim.Native.Nat.{ℕ, suc, _+_, _-_, _*_, _≤_, _<_}
+use mathlib.Core.Path.{_≡_, refl, sym, _∙_, ap}
+use mathlib.Core.Bool.{Bool}
+use mathlib.Core.Option.{some}
 use mathlib.Core.List.{List, [], _∷_, _++_, map}
 use native.Mathlib.Omega.{arith}
-use lib.Dec.{eqb}
-use lib.ListN.{length, getD, getElem?, length-map}
+use lib.ListN.{length, getElem?, length-map}
 use Rattle.number.specs.Number.{shortest}
 use Rattle.value.specs.Fields.{textAt}
-use Rattle.reader.specs.Rows.{NameRow, QnameRow}
-use Rattle.reader.specs.Events.{Event, pi, qnamed, nameText, dataIn}
-use Rattle.form.specs.Places.{Triple, triple, sameText, sameTriple, place, numberOf, qnumberOf, grown}
-use Rattle.form.specs.Canonical.{counted, Defined, defined, Scopes, scopes, emit, onward, left, definition, qnameDefinition, withQname}
+use Rattle.machine.specs.Rows.{NameRow, QnameRow}
+use Rattle.machine.specs.Events.{Event, pi, qnamed, nameText, dataIn}
+use Rattle.form.specs.Places.{Triple, sameText, sameTriple, place, numberOf, qnumberOf}
+use Rattle.form.specs.Canonical.{counted, Defined, defined, Scopes, scopes, emit, onward, left, definition, qnameDefinition}
 use Rattle.classes.specs.Classes.{textsOf, tripleOf, triplesOf}
-use Rattle.naming.specs.Naming.{classAt, slotsAfter, bytesBefore, numberIn, partsAt, qnameBefore, namesAfter, Cleared}
-use Rattle.naming.proofs.Marks.{Marks, Agree}
-use Rattle.naming.proofs.Names.{Has, Classed, Has3, partsOf, bytes-are, slots-are, number-is, has-grown, number-grown, slots-agree, slots-long, names-agree, names-long}
-use Rattle.naming.proofs.Qnames.{qname-bytes, names-after, qnames-after, qnumber-is}
-use Rattle.naming.proofs.Layers as layers
-use Rattle.naming.proofs.Layers.{Layers, layers-agree, marks-none, cleared-agree}
-use Rattle.rewriter.specs.declared.Item.{Item}
-use Rattle.rewriter.specs.declared.Item.the-variants.{Byte, Texted, Pi, Refer, Valued, Nest, Leave}
-use Rattle.rewriter.specs.Walk.{Tables, piBytes, referBytes, bytesFor, NamesKept, QnamesKept, depthAfter}
+use Rattle.form_slots.specs.Slots.{classAt, slotsAfter, partsAt, Cleared}
+use Rattle.form_names.specs.Naming.{namesAfter}
+use Rattle.form_names.proofs.Marks.{Marks, Agree}
+use Rattle.form_names.proofs.Names.{Has, Classed, Has3, partsOf, bytes-are, slots-are, number-is, has-grown, number-grown, slots-agree, slots-long, names-agree, names-long}
+use Rattle.form_names.proofs.Qnames.{qname-bytes, names-after, qnames-after, qnumber-is}
+use Rattle.form_names.proofs.Layers as layers
+use Rattle.form_names.proofs.Layers.{Layers, layers-agree, marks-none, cleared-agree}
+use Rattle.form_items.specs.declared.Item.{Item}
+use Rattle.form_items.specs.declared.Item.the-variants.{Pi, Refer, Leave}
+use Rattle.form_items.specs.Walk.{Tables, piBytes, referBytes, bytesFor, NamesKept, QnamesKept, depthAfter}
 use Rattle.rewriter.proofs.ItemLaws as items
 use Rattle.rewriter.proofs.ItemLaws.{Meets}
 

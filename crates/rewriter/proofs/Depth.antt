@@ -1,6 +1,6 @@
 -- How many documents are open at an event, from the balance of a reading's events. Assumes nothing.
 use Prim.Native.Nat.{ℕ, suc, _+_, _-_, _≤_, _<_}
-use mathlib.Core.Path.{_≡_, refl, sym, _∙_, ap}
+use mathlib.Core.Path.{_≡_, refl, _∙_, ap}
 use mathlib.Core.Bool.{Bool, true, false, cond, not, _&&_}
 use mathlib.Core.Option.{Option, none, some}
 use mathlib.Core.List.{List, [], _∷_}
@@ -8,16 +8,16 @@ use native.Mathlib.Omega.{arith}
 use lib.Dec.{ltb, leb, eqb}
 use lib.ListN.{length}
 use borrow.Author.Tests.{ltb-true, leb-true}
-use Rattle.lists.proofs.Tests.{and-left, and-right}
+use Rattle.sequences.proofs.Tests.{and-left, and-right}
 use Rattle.token.specs.Answers.{openElements, nestedDocuments}
 use Rattle.token.specs.Tokens.{classOf}
 use Rattle.token.specs.declared.Class.{Class}
 use Rattle.token.specs.declared.Class.the-variants as class
-use Rattle.reader.specs.Rows.{EventRow}
-use Rattle.reader.specs.Balance.{Opened, opened, total, innermost, raised, lowered, around, outside, only, takenBy, taken, onto, check}
-use Rattle.rewriter.specs.declared.Item.{Item}
-use Rattle.rewriter.specs.declared.Item.the-variants.{Byte, Texted, Pi, Refer, Valued, Nest, Leave}
-use Rattle.rewriter.specs.Items.{itemBy, itemOf}
+use Rattle.machine.specs.Rows.{EventRow}
+use Rattle.machine.specs.Balance.{Opened, opened, total, innermost, raised, lowered, around, outside, only, takenBy, onto, check}
+use Rattle.form_items.specs.declared.Item.{Item}
+use Rattle.form_items.specs.declared.Item.the-variants.{Byte, Texted, Pi, Refer, Valued, Nest, Leave}
+use Rattle.form_items.specs.Items.{itemBy, itemOf}
 
 -- the documents open before and after an item
 abbrev pub Deeper : Item → ℕ → ℕ → Type 0

@@ -9,8 +9,8 @@ use native.Mathlib.Omega.{arith}
 use lib.Dec.{eqb, ltb}
 use lib.ListN.{length, getElem?}
 use borrow.Author.Tests.{eqb-true, ltb-true}
-use Rattle.lists.specs.Lists.{part}
-use Rattle.lists.proofs.Tests.{cond-if, and-left, and-right}
+use Rattle.sequences.specs.Lists.{part}
+use Rattle.sequences.proofs.Tests.{cond-if, and-left, and-right}
 use Rattle.token.specs.Tokens.{Token, token, tokens, find, classOf, shapeOf}
 use Rattle.token.specs.declared.Class.{Class}
 use Rattle.token.specs.declared.Class.the-variants as class
@@ -18,15 +18,15 @@ use Rattle.token.specs.declared.Shape.the-variants.{Nothing}
 use Rattle.value.specs.Fields.{textAt}
 use Rattle.value.specs.declared.Text.the-variants as text
 use Rattle.value.proofs.Fields.{field-inside, payload-inside, text-lies, is-lies, payload-lawful, not-qname}
-use Rattle.reader.specs.Rows.{NameRow, QnameRow, EventRow, event}
-use Rattle.reader.specs.Events.{Event, texted, standalone, pi, qnamed, valued, nest, plain, nameText, dataIn, qnameEvent, eventBy, eventOf}
-use Rattle.reader.specs.Facts as facts
-use Rattle.reader.specs.Facts.{textTokens, qnameTokens, bareTokens, EventFits}
-use Rattle.reader.proofs.Facts.{every-one-of}
-use Rattle.rewriter.specs.declared.Item.{Item}
-use Rattle.rewriter.specs.declared.Item.the-variants.{Byte, Texted, Pi, Refer, Valued, Nest, Leave}
-use Rattle.rewriter.specs.Items.{itemBy, itemOf}
-use Rattle.rewriter.specs.Walk.{TextThere}
+use Rattle.machine.specs.Rows.{NameRow, QnameRow, EventRow, event}
+use Rattle.machine.specs.Events.{Event, texted, standalone, pi, qnamed, valued, nest, plain, nameText, dataIn, qnameEvent, eventBy, eventOf}
+use Rattle.machine.specs.Facts as facts
+use Rattle.machine.specs.Facts.{textTokens, qnameTokens, bareTokens, EventFits}
+use Rattle.machine.proofs.Facts.{every-one-of}
+use Rattle.form_items.specs.declared.Item.{Item}
+use Rattle.form_items.specs.declared.Item.the-variants.{Byte, Texted, Pi, Refer, Valued, Nest, Leave}
+use Rattle.form_items.specs.Items.{itemBy, itemOf}
+use Rattle.form_items.specs.Walk.{TextThere}
 
 -- ---- tokens
 

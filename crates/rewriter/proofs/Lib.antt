@@ -1,10 +1,6 @@
 pub mod ItemLaws
 pub mod Depth
 pub mod Acts
-pub mod Bytes
-pub mod Classed
-pub mod Writes
 pub mod Step
 pub mod Prep
 pub mod Walks
-pub mod Forms

@@ -1,29 +1,29 @@
 -- What the tables and classes say when the walk begins. Assumes nothing.
 use Prim.Native.Nat.{ℕ, zero, suc, _+_, _-_, _*_, _≤_, _<_}
-use mathlib.Core.Path.{_≡_, refl, sym, _∙_, ap, subst}
+use mathlib.Core.Path.{_≡_, refl, sym, _∙_, ap}
 use mathlib.Core.Logic.{_⊎_, inl, inr}
 use mathlib.Core.Option.{Option, none, some}
-use mathlib.Core.List.{List, [], _∷_, _++_, map}
+use mathlib.Core.List.{List, [], _∷_, _++_}
 use native.Mathlib.Omega.{arith}
-use lib.ListN.{length, getD, getElem?, take, drop, length-append}
-use Rattle.lists.specs.Lists.{Front, part}
-use Rattle.lists.proofs.Overlay.{front-at}
-use Rattle.reader.specs.Rows.{NameRow, QnameRow, EventRow, nameRow, qnameRow, event}
-use Rattle.reader.specs.Events.{Event, nameText, eventOf}
-use Rattle.reader.specs.Facts as facts
-use Rattle.reader.specs.Facts.{Every, NameFits, QnameFits, EventFits, Placed}
+use lib.ListN.{length, getD, getElem?, drop}
+use Rattle.sequences.proofs.Overlay.{front-at}
+use Rattle.machine.specs.Rows.{NameRow, QnameRow, EventRow, nameRow, qnameRow, event}
+use Rattle.machine.specs.Events.{nameText, eventOf}
+use Rattle.machine.specs.Facts as facts
+use Rattle.machine.specs.Facts.{QnameFits, EventFits, Placed}
 use Rattle.form.specs.Places.{Triple, sameText, sameTriple, place, numberOf, qnumberOf}
 use Rattle.form.proofs.Places.{tells-text, tells-triple, place-at, place-found}
 use Rattle.classes.specs.Tables.{nameRowsIn, qnameRowsIn, eventRowsIn}
 use Rattle.classes.specs.Classes.{rowText, textsOf, nameClasses, tripleOf, triplesOf, qnameClasses}
 use Rattle.classes.proofs.Tables.{at-inside, at-some, every-at, length-name-rows, length-qname-rows, length-event-rows, name-row-at, qname-row-at, event-row-at, event-rows-from}
 use Rattle.classes.proofs.Classes.{Known, texts-at, length-texts, length-classes, name-class-at, name-text-at, class-text, name-known, triples-at, length-triples, length-qclasses, qname-class-at, qclass-row}
-use Rattle.naming.specs.Naming.{classAt, classText, partsAt, Texts}
-use Rattle.naming.proofs.Names.{Has, empty, among, Classed, Has3, partsOf}
-use Rattle.rewriter.specs.Walk.{Tables, Ready, Prepared}
+use Rattle.form_slots.specs.Slots.{classAt, partsAt}
+use Rattle.form_names.specs.Naming.{classText}
+use Rattle.form_names.proofs.Names.{Has, empty, among, Classed, Has3, partsOf}
+use Rattle.form_items.specs.Walk.{Tables, Ready, Prepared}
 use Rattle.rewriter.proofs.ItemLaws.{Meets, item-meets, fits-low}
 use Rattle.rewriter.proofs.Acts.{Said}
-use Rattle.rewriter.specs.Items.{itemOf}
+use Rattle.form_items.specs.Items.{itemOf}
 
 -- ---- rows
 

@@ -1,42 +1,42 @@
 -- The walk before each row of events: what is still to be written completes the form. Assumes nothing.
-use Prim.Native.Nat.{ℕ, zero, suc, _+_, _-_, _*_, _/_, _≤_, _<_}
+use Prim.Native.Nat.{ℕ, suc, _+_, _-_, _*_, _/_, _≤_, _<_}
 use mathlib.Core.Path.{_≡_, refl, sym, _∙_, ap, subst}
 use mathlib.Core.Logic.{_⊎_, inl, inr}
-use mathlib.Core.Bool.{Bool, true, false, cond}
-use mathlib.Core.Option.{Option, none, some}
+use mathlib.Core.Bool.{Bool, true, false}
+use mathlib.Core.Option.{some}
 use mathlib.Core.List.{List, [], _∷_, _++_, map}
 use native.Mathlib.Omega.{arith}
 use lib.Dec.{ltb, leb}
-use lib.ListN.{length, getD, take, drop, length-append, length-take, length-drop, drop-of-length-le}
+use lib.ListN.{length, getD, drop, length-append, length-take, length-drop, drop-of-length-le}
 use lib.Seq.{sets}
-use Rattle.lists.specs.Lists.{part}
-use Rattle.lists.proofs.Overlay.{sets-append}
+use Rattle.sequences.specs.Lists.{part}
+use Rattle.sequences.proofs.Overlay.{sets-append}
 use Rattle.token.specs.Tokens.{shapeOf}
-use Rattle.number.specs.Number.{shortest}
 use Rattle.token.specs.declared.Shape.{Shape}
 use Rattle.token.specs.declared.Shape.the-variants.{Nothing, Fixed, Text, Blob, CodePage, Decimal, Qname, Stamp, Date, Time, ZonedTime}
 use borrow.Author.Tests.{ltb-true, ltb-false, leb-true, leb-false}
 use Rattle.value.specs.Fields.{textAt}
 use Rattle.value.specs.declared.Text as texts
 use Rattle.value.specs.declared.Text.the-variants as text
-use Rattle.reader.specs.Rows.{NameRow, QnameRow, EventRow, event}
-use Rattle.reader.specs.Events.{Event, dataIn, eventOf}
-use Rattle.reader.specs.Balance.{Opened, check}
+use Rattle.machine.specs.Rows.{NameRow, QnameRow, EventRow}
+use Rattle.machine.specs.Events.{Event, dataIn, eventOf}
+use Rattle.machine.specs.Balance.{Opened, check}
 use Rattle.form.specs.Canonical.{Scopes, emit, onward, body, headerOf, lengthOf, counted}
-use Rattle.output.specs.Output.{Fits, Put}
-use Rattle.output.proofs.Laws.{shortest-few, put-length, fits-first}
-use Rattle.naming.specs.Naming.{classAt, slotsAfter, bytesBefore, numberIn, partsAt, qnameBefore, namesAfter, Low, Cleared}
-use Rattle.naming.proofs.Names.{slots-low, names-low}
-use Rattle.naming.proofs.Steps.{low-more, bytes-few, counted-few, qname-few}
-use Rattle.rewriter.specs.declared.Spot.{Spot}
-use Rattle.rewriter.specs.declared.Item.{Item}
-use Rattle.rewriter.specs.declared.Item.the-variants.{Byte, Texted, Pi, Refer, Valued, Nest, Leave}
-use Rattle.rewriter.specs.Items.{itemOf}
-use Rattle.rewriter.specs.Walk.{Tables, before, piBytes, referBytes, bytesFor, NamesKept, QnamesKept, depthAfter, Turned, Ready, ItemFits}
+use Rattle.form_output.specs.Output.{Fits, Put}
+use Rattle.form_output.proofs.Laws.{shortest-few, put-length}
+use Rattle.form_slots.specs.Slots.{classAt, slotsAfter, numberIn, partsAt, Low, Cleared}
+use Rattle.form_names.proofs.Names.{slots-low, names-low}
+use Rattle.form_slots.proofs.Slots.{low-more}
+use Rattle.form_names.proofs.Steps.{bytes-few, counted-few, qname-few}
+use Rattle.form_items.specs.declared.Spot.{Spot}
+use Rattle.form_items.specs.declared.Item.{Item}
+use Rattle.form_items.specs.declared.Item.the-variants.{Byte, Texted, Pi, Refer, Valued, Nest, Leave}
+use Rattle.form_items.specs.Items.{itemOf}
+use Rattle.form_items.specs.Walk.{Tables, before, piBytes, referBytes, bytesFor, NamesKept, QnamesKept, depthAfter, Turned, ItemFits}
 use Rattle.rewriter.proofs.ItemLaws as items
 use Rattle.rewriter.proofs.ItemLaws.{Meets}
 use Rattle.rewriter.proofs.Depth.{Deeper, docs, Next, next}
-use Rattle.rewriter.proofs.Acts.{Said, Kept, Acts, acts, bytes-of}
+use Rattle.rewriter.proofs.Acts.{Said, Kept, acts, bytes-of}
 
 -- ---- an item's bytes are few, and its numbers low
 

@@ -2,27 +2,26 @@
 use Prim.Native.Nat.{ℕ, zero, suc, _+_, _-_, _*_, _≤_, _<_}
 use mathlib.Core.Path.{_≡_, refl, sym, _∙_, ap, subst}
 use mathlib.Core.Logic.{_⊎_, inl, inr}
-use mathlib.Core.Option.{some}
-use mathlib.Core.List.{List, [], _∷_, _++_, map}
+use mathlib.Core.List.{List, [], map}
 use native.Mathlib.Omega.{arith}
-use lib.ListN.{length, getD, drop, length-append, replicate, length-replicate, getD-replicate}
+use lib.ListN.{length, getD, length-append, replicate, length-replicate, getD-replicate}
 use lib.Seq.{sets}
-use Rattle.reader.specs.Rows.{NameRow, QnameRow, EventRow}
-use Rattle.reader.specs.Events.{Event, eventOf}
-use Rattle.reader.specs.Balance.{closed}
+use Rattle.machine.specs.Rows.{NameRow, QnameRow, EventRow}
+use Rattle.machine.specs.Events.{eventOf}
+use Rattle.machine.specs.Balance.{closed}
 use Rattle.form.specs.Places.{sameText, sameTriple}
-use Rattle.form.specs.Canonical.{Scopes, none-yet, body, headerOf, canonical}
-use Rattle.output.specs.Output.{Fits, Put}
-use Rattle.output.proofs.Laws.{put-then, put-length}
+use Rattle.form.specs.Canonical.{none-yet, body, headerOf, canonical}
+use Rattle.form_output.specs.Output.{Fits, Put}
+use Rattle.form_output.proofs.Laws.{put-then, put-length}
 use Rattle.classes.specs.Classes.{textsOf, triplesOf}
-use Rattle.naming.specs.Naming.{Low, Cleared}
-use Rattle.naming.proofs.Steps.{low-more}
-use Rattle.naming.proofs.Layers as layers
-use Rattle.naming.proofs.Layers.{marks-none}
-use Rattle.rewriter.specs.declared.Spot.{Spot}
-use Rattle.rewriter.specs.declared.Item.{Item}
-use Rattle.rewriter.specs.declared.Item.the-variants.{Leave}
-use Rattle.rewriter.specs.Walk.{Tables, itemAt, Either, bytesFor, depthAfter, Wrote, Turned, Ready, ItemFits, Prepared, eventsIn}
+use Rattle.form_slots.specs.Slots.{Low, Cleared}
+use Rattle.form_slots.proofs.Slots.{low-more}
+use Rattle.form_names.proofs.Layers as layers
+use Rattle.form_names.proofs.Layers.{marks-none}
+use Rattle.form_items.specs.declared.Spot.{Spot}
+use Rattle.form_items.specs.declared.Item.{Item}
+use Rattle.form_items.specs.declared.Item.the-variants.{Leave}
+use Rattle.form_items.specs.Walk.{Tables, itemAt, Either, bytesFor, depthAfter, Wrote, Turned, Ready, ItemFits, Prepared, eventsIn}
 use Rattle.rewriter.proofs.Step.{Rel, fits-here, room-here, keeps, ends}
 use Rattle.classes.specs.Tables.{nameRowsIn, qnameRowsIn, eventRowsIn}
 use Rattle.rewriter.proofs.Prep.{long-names, long-qnames, long-events, said, ready, from-row, meets, rowAt, token-low}

@@ -4,57 +4,15 @@ ghost use mathlib.Core.Path.{_≡_};
 ghost use Prim.Native.Nat.{_+_, _*_, _≤_, _<_};
 ghost use lib.ListN.{length, getD};
 ghost use Rattle.token.specs.Entries.{Listed};
-ghost use Rattle.reader.specs.Machine.{reading};
-ghost use Rattle.reader.specs.Contract.{roomIn};
+ghost use Rattle.machine.specs.Machine.{reading};
+ghost use Rattle.machine.specs.Contract.{roomIn};
 ghost use Rattle.form.specs.Canonical.{canonical};
-ghost use Rattle.output.specs.Output.{Fits, Put};
-ghost use Rattle.naming.specs.Naming.{Low};
-ghost use Rattle.rewriter.specs.Walk.{tables, baseAt, bytesFor, itemAt, Either, Turned, Ready, ItemFits, Prepared, eventsIn};
-ghost use Rattle.rewriter.specs.Contract.{answer, Formed, Rewrites};
-
-mod items;
-mod writing;
-
-// An event as the walk takes it.
-pub enum Item {
-    // a byte alone: the standalone byte, ENDELEMENT, ENDATTRIBUTES, CDATAEND
-    Byte(usize),
-    Texted {
-        token: u8,
-        place: usize,
-        units: usize,
-    },
-    // the row of its target, and the place of its text's length
-    Pi {
-        row: usize,
-        start: usize,
-    },
-    // a reference to a row of qnames
-    Refer {
-        token: u8,
-        row: usize,
-    },
-    Valued {
-        token: u8,
-        place: usize,
-        size: usize,
-    },
-    Nest(usize),
-    Leave,
-}
-
-// A place in the output, and how many documents are nested there.
-pub struct Spot {
-    pub at: usize,
-    pub depth: usize,
-}
-
-// The answer number, its place or count, and the length written.
-pub struct Answer {
-    pub number: u32,
-    pub place: usize,
-    pub length: usize,
-}
+ghost use Rattle.form_output.specs.Output.{Fits, Put};
+ghost use Rattle.form_slots.specs.Slots.{Low};
+ghost use Rattle.form_items.specs.Walk.{tables, baseAt, bytesFor, itemAt, Either, Turned, Ready, ItemFits, Prepared, eventsIn};
+ghost use Rattle.rewriter_contract.specs.Contract.{answer, Formed, Rewrites};
+use form_items::Spot;
+use rewriter_contract::Answer;
 
 // One row of events.
 fn turn(
@@ -81,9 +39,9 @@ fn turn(
     ensures { λ r. ⌜ Turned (tables (now (doc .entry)) (now (names .entry)) (now (qnames .entry)) (now (classes .entry)) (now (qclasses .entry)))
         (now (slots .entry)) (now (qslots .entry)) (now (out .entry)) (now (slots .exit)) (now (qslots .exit)) (now (out .exit)) w (itemAt (now (events .entry)) i) r ⌝ }
 {
-    let item = items::look(table, events, i);
-    let depth = items::depth_after(item, w.depth);
-    let at = writing::write(
+    let item = form_items::look(table, events, i);
+    let depth = form_items::depth_after(item, w.depth);
+    let at = form_items::write(
         table,
         doc,
         names,
@@ -111,7 +69,7 @@ fn walk(
     classes: &[u32; 1024],
     qclasses: &[u32; 1024],
     out: &mut [u8],
-    read: reader::Answer,
+    read: machine::Answer,
 ) -> usize
     requires { ⌜ Listed (now table) × Prepared (tables (now doc) (now names) (now qnames) (now classes) (now qclasses)) (now events) (read .names) (read .qnames) (read .events)
         × (read .version ≤ 2)
@@ -123,7 +81,7 @@ fn walk(
     let mut qslots = [0u32; 9225];
     let rows = read.names;
     let qrows = read.qnames;
-    let at = output::put_header(out, 0, read.version as u8);
+    let at = form_bytes::put_header(out, 0, read.version as u8);
     let mut w = Spot { at, depth: 0 };
     let mut i: usize = 0;
     while i < read.events {
@@ -169,7 +127,7 @@ fn write_form(
     classes: &[u32; 1024],
     qclasses: &[u32; 1024],
     out: &mut [u8],
-    read: reader::Answer,
+    read: machine::Answer,
 ) -> Answer
     requires { ⌜ Listed (now table) × Prepared (tables (now doc) (now names) (now qnames) (now classes) (now qclasses)) (now events) (read .names) (read .qnames) (read .events)
         × (read .version ≤ 2) ⌝ }
@@ -232,8 +190,8 @@ pub fn rewrite(
     let table = token::table();
     let mut classes = [0u32; 1024];
     let mut qclasses = [0u32; 1024];
-    classes::name_classes(doc, names, read.names, &mut classes);
-    classes::qname_classes(
+    name_classes::name_classes(doc, names, read.names, &mut classes);
+    qname_classes::qname_classes(
         doc,
         names,
         read.names,

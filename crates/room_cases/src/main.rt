@@ -1,11 +1,10 @@
 // Runs reading into small tables: each line of standard input is a document in hexadecimal and the lengths of three
 // tables. It is written again, followed by what reading answers and by the rows; `changed` where a number past the rows
 // is no longer what stood there.
-ghost use mathlib.Core.Path.{_≡_};
 ghost use Prim.Native.Nat.{_+_, _≤_, _<_};
 ghost use lib.ListN.{length};
 use libc::STDOUT_FILENO;
-use reader::Answer;
+use machine::Answer;
 
 const MARK: u32 = 2779096485;
 
@@ -51,7 +50,7 @@ fn read_front(
 // Writes the answer, and as many rows as it tells of and the tables hold.
 fn write_report(names: &[u32], qnames: &[u32], events: &[u32], a: Answer) {
     let mut text = [0u8; 239771];
-    let end = report::put_rows(
+    let end = print_rows::put_rows(
         &mut text,
         names,
         qnames,
@@ -60,7 +59,7 @@ fn write_report(names: &[u32], qnames: &[u32], events: &[u32], a: Answer) {
         least(a.qnames, least(qnames.len() / 3, 1024)),
         least(a.events, least(events.len() / 4, 4096)),
     );
-    let from = report::put_answer(&mut text, end, a);
+    let from = print_reading::put_answer(&mut text, end, a);
     io::write_all(STDOUT_FILENO, &text[from..]);
 }
 

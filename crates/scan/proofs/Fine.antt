@@ -1,17 +1,16 @@
 -- What the scanner finds lies inside the document, and its row, if one is due, has room. Assumes nothing.
-use Prim.Native.Nat.{ℕ, _+_, _-_, _*_, _≤_, _<_}
-use mathlib.Core.Path.{_≡_, refl, sym, _∙_, ap, subst}
-use mathlib.Core.Bool.{Bool, true, false, cond, _&&_}
+use Prim.Native.Nat.{ℕ, _+_, _-_, _≤_, _<_}
+use mathlib.Core.Path.{_≡_, sym, subst}
+use mathlib.Core.Bool.{true, _&&_}
 use mathlib.Core.List.{List}
 use native.Mathlib.Omega.{arith}
 use lib.Dec.{ltb, leb, eqb}
 use lib.ListN.{length, getD}
 use borrow.Author.Tests.{ltb-true, leb-true, eqb-true}
-use Rattle.lists.proofs.Tests.{tests, cond-if, and-left, and-right}
-use Rattle.token.specs.Answers.{accepted, missing, badToken, notDefined, badValue, tooDeep, noRow, openElements, nestedDocuments, largest}
+use Rattle.sequences.proofs.Tests.{cond-if, and-left, and-right}
+use Rattle.token.specs.Answers.{openElements, nestedDocuments}
 use Rattle.token.specs.Tokens.{classOf, shapeOf}
 use Rattle.token.specs.declared.NameNumber.{NameNumber}
-use Rattle.token.specs.declared.QnameNumber.{QnameNumber}
 use Rattle.token.specs.declared.Class.{Class}
 use Rattle.token.specs.declared.Class.the-variants as class
 use Rattle.number.specs.Number.{numberAt, Within}
@@ -30,11 +29,11 @@ use Rattle.fields.specs.declared.Qname.{Qname}
 use Rattle.fields.specs.declared.Qname.the-variants as qname
 use Rattle.fields.specs.declared.Header.{Header}
 use Rattle.fields.specs.declared.Header.the-variants as header
-use Rattle.scan.specs.Modes.{content, declares, is, numberOf, allowed, afterMisc, afterValue}
+use Rattle.modes.specs.Modes.{content, declares, is, allowed, afterMisc}
 use Rattle.scan.specs.Steps.{eventDue, textAfter, textStep, nameAfter, nameStep, localAfter, prefixAfter, uriAfter, qnameStep, extensionAfter, extensionStep, dataAfter, targetAfter, piStep, openAfter, elementStep, attributeAfter, attributeStep, valueAfter, valueStep, nestAfter, nestStep, classStep, tokenStep, declaredStep, endStep, stepAt}
-use Rattle.scan.specs.declared.Mode.{Mode}
-use Rattle.scan.specs.declared.Mode.the-variants.{Content, Prolog, AfterDocType, AfterSystem, AfterPublic, Attributes, Cdata, AfterXmlDecl, AfterEncoding}
-use Rattle.scan.specs.declared.View.{View}
+use Rattle.modes.specs.declared.Mode.{Mode}
+use Rattle.modes.specs.declared.Mode.the-variants.{Content, AfterDocType, AfterSystem, AfterPublic, Cdata, AfterXmlDecl, AfterEncoding}
+use Rattle.modes.specs.declared.View.{View}
 use Rattle.scan.specs.declared.Room.{Room}
 use Rattle.scan.specs.declared.Step.{Step}
 use Rattle.scan.specs.declared.Step.the-variants as step

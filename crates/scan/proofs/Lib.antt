@@ -1,5 +1,3 @@
-pub mod ModeLaws
 pub mod Steps
 pub mod Fine
 pub mod Valued
-pub mod Commonest

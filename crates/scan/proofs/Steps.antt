@@ -1,44 +1,39 @@
 -- What each way out of a token's function says of the definition. Assumes nothing.
 use Prim.Native.Nat.{ℕ, _+_, _-_, _*_, _≤_, _<_}
-use mathlib.Core.Path.{_≡_, refl, sym, _∙_, ap, subst}
-use mathlib.Core.Bool.{Bool, true, false, cond, _&&_}
+use mathlib.Core.Path.{_≡_, sym, _∙_, ap}
+use mathlib.Core.Bool.{Bool, true, false, _&&_}
 use mathlib.Core.List.{List}
 use native.Mathlib.Omega.{arith}
-use lib.Dec.{ltb, leb, eqb}
+use lib.Dec.{leb, eqb}
 use lib.ListN.{length, getD}
-use borrow.Author.Tests.{ltb-true, leb-true, eqb-true}
-use Rattle.lists.proofs.Tests.{tests, cond-if, and-left, and-right}
-use Rattle.token.specs.Answers.{accepted, missing, badToken, notDefined, badValue, tooDeep, noRow, openElements, nestedDocuments, largest}
+use Rattle.sequences.proofs.Tests.{tests}
+use Rattle.token.specs.Answers.{accepted, missing, badToken, notDefined, badValue, tooDeep, noRow, openElements, nestedDocuments}
 use Rattle.token.specs.Tokens.{classOf, shapeOf}
 use Rattle.token.specs.declared.NameNumber.{NameNumber}
 use Rattle.token.specs.declared.QnameNumber.{QnameNumber}
-use Rattle.token.specs.declared.Class.{Class}
-use Rattle.token.specs.declared.Class.the-variants as class
-use Rattle.number.specs.Number.{numberAt, Within}
+use Rattle.number.specs.Number.{numberAt}
 use Rattle.number.specs.declared.Number.{Number}
 use Rattle.number.specs.declared.Number.the-variants as number
-use Rattle.value.specs.Fields.{textAt, fieldAt, Lies, Inside}
+use Rattle.value.specs.Fields.{textAt, fieldAt}
 use Rattle.value.specs.declared.Text.{Text}
 use Rattle.value.specs.declared.Text.the-variants as text
 use Rattle.value.specs.declared.Field.{Field}
 use Rattle.value.specs.declared.Field.the-variants as field
-use Rattle.fields.specs.References.{nameAt, qnameAt, NameWithin, QnameWithin}
-use Rattle.fields.specs.Headers.{headerAt, HeaderWithin}
+use Rattle.fields.specs.References.{nameAt, qnameAt}
+use Rattle.fields.specs.Headers.{headerAt}
 use Rattle.fields.specs.declared.Name.{Name}
 use Rattle.fields.specs.declared.Name.the-variants as name
 use Rattle.fields.specs.declared.Qname.{Qname}
-use Rattle.fields.specs.declared.Qname.the-variants as qname
 use Rattle.fields.specs.declared.Header.{Header}
-use Rattle.fields.specs.declared.Header.the-variants as header
-use Rattle.scan.specs.Modes.{content, declares, is, numberOf, allowed, afterMisc, afterValue}
+use Rattle.modes.specs.Modes.{content, declares, is, numberOf, allowed, afterValue}
 use Rattle.scan.specs.Steps.{eventDue, textAfter, textStep, nameAfter, nameStep, localAfter, prefixAfter, uriAfter, qnameStep, extensionAfter, extensionStep, dataAfter, targetAfter, piStep, openAfter, elementStep, attributeAfter, attributeStep, valueAfter, valueStep, nestAfter, nestStep, classStep, tokenStep, declaredStep, endStep, stepAt}
-use Rattle.scan.specs.declared.Mode.{Mode}
-use Rattle.scan.specs.declared.Mode.the-variants.{Content, Prolog, AfterDocType, AfterSystem, AfterPublic, Attributes, Cdata, AfterXmlDecl, AfterEncoding}
-use Rattle.scan.specs.declared.View.{View}
+use Rattle.modes.specs.declared.Mode.{Mode}
+use Rattle.modes.specs.declared.Mode.the-variants.{Prolog, AfterXmlDecl, AfterEncoding}
+use Rattle.modes.specs.declared.View.{View}
 use Rattle.scan.specs.declared.Room.{Room}
 use Rattle.scan.specs.declared.Step.{Step}
 use Rattle.scan.specs.declared.Step.the-variants as step
-use Rattle.scan.proofs.ModeLaws.{content-is, declares-is}
+use Rattle.modes.proofs.ModeLaws.{content-is, declares-is}
 
 module _ (v : View) (room : Room) where
   pub due-on : (on : Step) → v .events < room .events → on ≡ eventDue v room on

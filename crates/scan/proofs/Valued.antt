@@ -5,12 +5,12 @@ use mathlib.Core.List.{List, [], _∷_}
 use lib.Dec.{T}
 use types.Run.{OneOf}
 use denote.Enum.Declared.{tagOf}
-use Rattle.lists.proofs.Match.{among, one-of}
+use Rattle.sequences.proofs.Match.{among, one-of}
 use Rattle.token.proofs.Class.{the-type}
 use Rattle.token.specs.declared.Class.{Class}
 use Rattle.token.specs.declared.Class.the-variants as class
 use Rattle.scan.specs.Steps.{valueStep, classStep}
-use Rattle.scan.specs.declared.View.{View}
+use Rattle.modes.specs.declared.View.{View}
 use Rattle.scan.specs.declared.Room.{Room}
 
 valued-by : (c : Class) (doc : List ℕ) (v : View) (room : Room) (token : ℕ) → T (among (1 ∷ 2 ∷ []) (tagOf the-type c))

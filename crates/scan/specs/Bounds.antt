@@ -1,7 +1,7 @@
 -- Bounds that a caller of the scanner needs, by what it found.
 use Prim.Native.Nat.{ℕ, _+_, _*_, _≤_, _<_}
 use mathlib.Core.Path.{_≡_}
-use Rattle.scan.specs.declared.View.{View}
+use Rattle.modes.specs.declared.View.{View}
 use Rattle.scan.specs.declared.Room.{Room}
 use Rattle.scan.specs.declared.Step.{Step}
 use Rattle.scan.specs.declared.Step.the-variants as step

@@ -1,4 +1,2 @@
-pub mod Modes
 pub mod Steps
 pub mod Bounds
-pub mod Common

@@ -1,7 +1,7 @@
 -- What stands at a place and what refuses it, in 01's order: 5, then 8, then its fields one by one (2, 4, 6, and 3 inside
 -- a nested header), then 7, then 9 when its row is due (01, "Answer numbers", "Document rules", "Rows").
 use Prim.Native.Nat.{ℕ, _+_, _*_}
-use mathlib.Core.Bool.{Bool, cond, _&&_}
+use mathlib.Core.Bool.{cond, _&&_}
 use mathlib.Core.List.{List}
 use lib.Dec.{ltb, leb, eqb}
 use lib.ListN.{length, getD}
@@ -26,10 +26,10 @@ use Rattle.fields.specs.declared.Qname.{Qname}
 use Rattle.fields.specs.declared.Qname.the-variants as qname
 use Rattle.fields.specs.declared.Header.{Header}
 use Rattle.fields.specs.declared.Header.the-variants as header
-use Rattle.scan.specs.Modes.{content, declares, is, allowed, afterMetadata, afterMisc, afterValue}
-use Rattle.scan.specs.declared.Mode.{Mode}
-use Rattle.scan.specs.declared.Mode.the-variants.{Content, Prolog, AfterDocType, AfterSystem, AfterPublic, Attributes, Cdata, AfterXmlDecl, AfterEncoding}
-use Rattle.scan.specs.declared.View.{View}
+use Rattle.modes.specs.Modes.{content, declares, is, allowed, afterMisc, afterValue}
+use Rattle.modes.specs.declared.Mode.{Mode}
+use Rattle.modes.specs.declared.Mode.the-variants.{Content, Prolog, AfterDocType, AfterSystem, AfterPublic, Attributes, Cdata, AfterXmlDecl, AfterEncoding}
+use Rattle.modes.specs.declared.View.{View}
 use Rattle.scan.specs.declared.Room.{Room}
 use Rattle.scan.specs.declared.Step.{Step}
 use Rattle.scan.specs.declared.Step.the-variants as step

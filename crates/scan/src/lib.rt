@@ -6,56 +6,14 @@ ghost use lib.ListN.{length};
 ghost use Rattle.token.specs.Entries.{Listed};
 ghost use Rattle.scan.specs.Steps.{classStep, tokenStep, declaredStep, endStep, stepAt};
 ghost use Rattle.scan.specs.Bounds.{Fine};
+use modes::Mode;
+use modes::View;
 use modes::both;
 use token::Class;
 use token::NameNumber;
 use token::QnameNumber;
 
-mod common_tokens;
-mod modes;
 mod tokens;
-
-pub use common_tokens::common_at;
-pub use modes::after_metadata;
-pub use modes::after_misc;
-
-// What may come next.
-pub enum Mode {
-    Content,
-    // after an ELEMENT's number
-    Tag,
-    // directly after a header
-    First,
-    // while only a declaration, comments, PIs and metadata have come
-    Prolog,
-    AfterDocType,
-    AfterSystem,
-    AfterPublic,
-    // from an ATTRIBUTE to ENDATTRIBUTES
-    Attributes,
-    // after a CDATA chunk
-    Cdata,
-    AfterXmlDecl,
-    AfterEncoding,
-}
-
-// What a token is judged by. `known` names and `qknown` qnames are defined in this document; their rows stand in the
-// reader's stacks from `base` and `qbase` on. `elements` are open in this document, `opened` in all.
-pub struct View {
-    pub at: usize,
-    pub mode: Mode,
-    pub version: usize,
-    pub elements: usize,
-    pub opened: usize,
-    pub depth: usize,
-    pub known: usize,
-    pub base: usize,
-    pub qknown: usize,
-    pub qbase: usize,
-    pub names: usize,
-    pub qnames: usize,
-    pub events: usize,
-}
 
 // The rows that each table holds.
 pub struct Room {
@@ -129,18 +87,6 @@ pub enum Step {
     Leave {
         next: usize,
     },
-}
-
-// The commonest tokens, where nothing refuses them.
-pub enum Common {
-    // any other token, every refusal, and the end of the input
-    Other,
-    // ENDELEMENT: an element ends
-    End,
-    // ELEMENT with a number of one byte: an element begins
-    Begin(QnameNumber),
-    // a value of so many bytes, after which content comes
-    Fixed(usize),
 }
 
 fn refuse_token(v: View) -> Step

@@ -1,4 +1,4 @@
-// Shows the text of one value: standard input is a token byte and then the payload. The contract of `display::print` says byte
+// Shows the text of one value: standard input is a token byte and then the payload. The contract of `print_value::print` says byte
 // for byte what is printed. The input holds the token, the longest payload, and one byte more, so that a longer one can be
 // answered.
 fn main() {
@@ -8,6 +8,6 @@ fn main() {
         return;
     }
     let mut text = [0u8; 524483];
-    let from = display::print(&input[..size], &mut text);
+    let from = print_value::print(&input[..size], &mut text);
     console::write_output(&text[from..]);
 }

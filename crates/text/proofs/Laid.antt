@@ -8,22 +8,26 @@ use native.Mathlib.Omega.{arith}
 use lib.ListN.{length}
 use lib.Dec.{leb}
 use borrow.Author.Tests.{leb-true}
-use Rattle.lists.specs.Lists.{overlay, bytesOf}
-use Rattle.lists.proofs.Tests.{tests, cond-if}
-use Rattle.lists.proofs.Overlay.{length-overlay}
-use Rattle.lists.proofs.Units.{length-bytesOf}
+use Rattle.sequences.specs.Lists.{overlay, bytesOf}
+use Rattle.sequences.proofs.Tests.{tests, cond-if}
+use Rattle.sequences.proofs.Overlay.{length-overlay}
+use Rattle.sequences.proofs.Units.{length-bytesOf}
 use Rattle.numeral.specs.Numeral.{numeral, truth}
-use Rattle.numeral.specs.Chunks.{valueOf, Ends}
-use Rattle.numeral.specs.declared.Chunks.{Chunks}
-use Rattle.blobtext.specs.Blobtext.{hex, base64}
-use Rattle.blobtext.proofs.Hex.{length-hex}
-use Rattle.blobtext.proofs.Base64.{length-base64}
+use Rattle.chunks.specs.Chunks.{valueOf}
+use Rattle.numeral.specs.Puts.{Ends}
+use Rattle.chunks.specs.declared.Chunks.{Chunks}
+use Rattle.hexadecimal.specs.Hexadecimal.{hex}
+use Rattle.base64.specs.Base64.{base64}
+use Rattle.hexadecimal.proofs.Hex.{length-hex}
+use Rattle.base64.proofs.Base64.{length-base64}
 use Rattle.text.specs.declared.Shown.{Shown}
 use Rattle.text.specs.declared.Shown.the-variants.{Own, Made, Short, NoText}
-use Rattle.text.specs.declared.Plan.{Plan}
-use Rattle.text.specs.declared.Plan.the-variants.{Nothing, Payload, Number, Boolean, HexDigits, Base64Letters}
-use Rattle.text.specs.Text.{kindOf, textOf, isSame, laid, laidIn, Shows}
-use Rattle.text.specs.Plans.{NumberFits, PayloadFits, Means, Lays}
+use Rattle.plan.specs.declared.Plan.{Plan}
+use Rattle.plan.specs.declared.Plan.the-variants.{Nothing, Payload, Number, Boolean, HexDigits, Base64Letters}
+use Rattle.plan.specs.Text.{kindOf, textOf, isSame}
+use Rattle.text.specs.Shows.{laid, laidIn, Shows}
+use Rattle.plan.specs.Plans.{NumberFits, PayloadFits, Means}
+use Rattle.text.specs.Lays.{Lays}
 
 -- ---- the room
 

@@ -1,6 +1,2 @@
-pub mod Rules
-pub mod Plans
 pub mod Laid
-pub mod UnitAt
-pub mod Lengths
 pub mod Returned

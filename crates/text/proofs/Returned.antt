@@ -8,16 +8,17 @@ use native.Mathlib.Omega.{arith}
 use lib.ListN.{length, drop}
 use lib.Seq.{take-all, take-append-seam}
 use lib.Dec.{leb}
-use Rattle.lists.specs.Lists.{Bytes, overlay, bytesOf, unitsOf}
-use Rattle.lists.proofs.Units.{length-bytesOf, bytesOf-unitsOf}
-use Rattle.text.specs.declared.Kind.{Kind}
-use Rattle.text.specs.declared.Kind.the-variants.{Unshown, Same, Signed, Unsigned, Truth, Decimal, Hex, Base64}
+use Rattle.sequences.specs.Lists.{Bytes, overlay, bytesOf, unitsOf}
+use Rattle.sequences.proofs.Units.{length-bytesOf, bytesOf-unitsOf}
+use Rattle.plan.specs.declared.Kind.{Kind}
+use Rattle.plan.specs.declared.Kind.the-variants.{Unshown, Same, Signed, Unsigned, Truth, Decimal, Hex, Base64}
 use Rattle.text.specs.declared.Shown.{Shown}
 use Rattle.text.specs.declared.Shown.the-variants.{Made, Short}
-use Rattle.text.specs.Text.{kindOf, shown, textOf, isSame, laid, laidIn, shownBy, heldBy, Shows, partOf, handed}
-use Rattle.text.specs.Plans.{Ruled}
-use Rattle.text.proofs.Rules.{never, ruled}
-use Rattle.text.proofs.Lengths.{text-told}
+use Rattle.plan.specs.Text.{kindOf, shown, textOf, isSame}
+use Rattle.text.specs.Shows.{laid, laidIn, shownBy, heldBy, Shows, partOf, handed}
+use Rattle.plan.specs.Plans.{Ruled}
+use Rattle.plan.proofs.Rules.{never, ruled}
+use Rattle.plan.proofs.Lengths.{text-told}
 
 -- where the payload is the text, its bytes are those of the text
 own-bytes : (kind : Kind) (p units : List ℕ) → Bytes p → Ruled kind p → isSame kind ≡ true → shown kind p ≡ some units → bytesOf units ≡ p

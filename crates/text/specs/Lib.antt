@@ -1,4 +1,2 @@
-pub mod Text
-pub mod Plans
-pub mod Lengths
-pub mod Examples
+pub mod Shows
+pub mod Lays

@@ -1,11 +1,11 @@
 -- The rule of the table, from one test computed over all of its entries; and what no number of a class or shape says. Assumes nothing.
-use Prim.Native.Nat.{ℕ, _/_, _%_, _≤_, _<_}
+use Prim.Native.Nat.{ℕ, _/_, _%_, _<_}
 use mathlib.Core.Path.{_≡_, refl, _∙_}
 use mathlib.Core.Logic.{⊎-elim}
 use mathlib.Core.List.{List, map}
 use lib.ListN.{getD, List·getD-eq-default}
-use Rattle.lists.proofs.Match.{NoneTo, past-keys}
-use Rattle.lists.proofs.Table.{counted, at-each}
+use Rattle.sequences.proofs.Match.{NoneTo, past-keys}
+use Rattle.sequences.proofs.Table.{counted, at-each}
 use Rattle.token.specs.Tokens.{classOf, shapeOf}
 use Rattle.token.specs.Entries.{Listed, classIn, shapeIn, classes, shapes}
 use Rattle.token.specs.declared.Class.{Class}

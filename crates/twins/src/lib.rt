@@ -9,7 +9,7 @@ ghost use Prim.Native.Nat.{_+_, _*_, _%_, _<_, _≤_};
 ghost use lib.ListN.{length, getD};
 ghost use lib.Seq.{sets};
 ghost use lib.Dec.{leb};
-ghost use Rattle.lists.specs.Lists.{overlay};
+ghost use Rattle.sequences.specs.Lists.{overlay};
 ghost use Rattle.hash.specs.Hash.{hashOf};
 ghost use Rattle.meaning.specs.Meaning.{same};
 ghost use Rattle.meaning.specs.Pairs.{pair, pairsOf, flatPairs};

@@ -8,8 +8,8 @@ use native.Mathlib.Omega.{arith}
 use lib.Dec.{ltb, leb, eqb}
 use lib.ListN.{length, getD}
 use borrow.Author.Tests.{leb-true, eqb-true}
-use Rattle.lists.specs.Lists.{part}
-use Rattle.lists.proofs.Tests.{tests, cond-if}
+use Rattle.sequences.specs.Lists.{part}
+use Rattle.sequences.proofs.Tests.{tests, cond-if}
 use Rattle.token.specs.Answers.{missing, badValue, largest}
 use Rattle.token.specs.Tokens.{shapeOf}
 use Rattle.token.specs.declared.Shape.{Shape}
@@ -18,7 +18,7 @@ use Rattle.number.specs.Number.{numberAt, Within}
 use Rattle.number.specs.declared.Number.{Number}
 use Rattle.number.specs.declared.Number.the-variants as number
 use Rattle.number.proofs.Within.{number-within}
-use Rattle.value.specs.Rules.{decimalSize, timeBytes, lawful}
+use Rattle.rules.specs.Rules.{decimalSize, timeBytes, lawful}
 use Rattle.value.specs.declared.Text as declared
 use Rattle.value.specs.declared.Text.the-variants as text
 use Rattle.value.specs.Fields.{needed, textAfter, textAt, textPayload, Lies, Halved, blobAfter, decimalAfter, timeField, qnameAfter, extentAt, ruled, fieldAt, Inside}

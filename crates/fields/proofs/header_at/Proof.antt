@@ -6,12 +6,6 @@ use native.Mathlib.Omega.{arith}
 use Rattle.fields.proofs.header_at.Statement.{statement}
 use Rattle.fields.proofs.header_at.Tie as tie
 
-fault-requires : tie.Need-fault-requires
-fault-requires c κs = search needs
-
-refused-requires : tie.Need-refused-requires
-refused-requires c κs = search needs
-
 returns : tie.Need-returns
 returns c =
     let e = c .refused .ensures in
@@ -20,14 +14,8 @@ returns c =
 add-fault : tie.Need-add-fault
 add-fault c = let l = c .before .fault .ensures .there (c .if1 .left) in omega arith
 
-fault-requires-2 : tie.Need-fault-requires-2
-fault-requires-2 c κs = search needs
-
 add-refused : tie.Need-add-refused
 add-refused c = let l = c .before .before .before .fault .ensures .there (c .before .before .if1 .left) in omega arith
-
-refused-requires-2 : tie.Need-refused-requires-2
-refused-requires-2 c κs = search needs
 
 returns-2 : tie.Need-returns-2
 returns-2 c =
@@ -37,14 +25,8 @@ returns-2 c =
 add-fault-2 : tie.Need-add-fault-2
 add-fault-2 c = let l = c .before .fault2 .ensures .there (c .if2 .left) in omega arith
 
-fault-requires-3 : tie.Need-fault-requires-3
-fault-requires-3 c κs = search needs
-
 add-refused-2 : tie.Need-add-refused-2
 add-refused-2 c = let l = c .before .before .before .fault2 .ensures .there (c .before .before .if2 .left) in omega arith
-
-refused-requires-3 : tie.Need-refused-requires-3
-refused-requires-3 c κs = search needs
 
 returns-3 : tie.Need-returns-3
 returns-3 c =
@@ -54,14 +36,8 @@ returns-3 c =
 add-fault-3 : tie.Need-add-fault-3
 add-fault-3 c = let l = c .before .fault3 .ensures .there (c .if3 .left) in omega arith
 
-fault-requires-4 : tie.Need-fault-requires-4
-fault-requires-4 c κs = search needs
-
 add-refused-3 : tie.Need-add-refused-3
 add-refused-3 c = let l = c .before .before .before .fault3 .ensures .there (c .before .before .if3 .left) in omega arith
-
-refused-requires-4 : tie.Need-refused-requires-4
-refused-requires-4 c κs = search needs
 
 returns-4 : tie.Need-returns-4
 returns-4 c =
@@ -71,14 +47,8 @@ returns-4 c =
 add-fault-4 : tie.Need-add-fault-4
 add-fault-4 c = let l = c .before .fault4 .ensures .there (c .if4 .left) in omega arith
 
-fault-requires-5 : tie.Need-fault-requires-5
-fault-requires-5 c κs = search needs
-
 add-refused-4 : tie.Need-add-refused-4
 add-refused-4 c = let l = c .before .before .before .fault4 .ensures .there (c .before .before .if4 .left) in omega arith
-
-refused-requires-5 : tie.Need-refused-requires-5
-refused-requires-5 c κs = search needs
 
 returns-5 : tie.Need-returns-5
 returns-5 c =
@@ -108,28 +78,28 @@ pub header-at-spec : {M : Type 1} → statement M
 header-at-spec =
     tie.close
     (tie.spec
-    fault-requires
-    refused-requires
+    (λ c κs. search needs)
+    (λ c κs. search needs)
     returns
     add-fault
-    fault-requires-2
+    (λ c κs. search needs)
     add-refused
-    refused-requires-2
+    (λ c κs. search needs)
     returns-2
     add-fault-2
-    fault-requires-3
+    (λ c κs. search needs)
     add-refused-2
-    refused-requires-3
+    (λ c κs. search needs)
     returns-3
     add-fault-3
-    fault-requires-4
+    (λ c κs. search needs)
     add-refused-3
-    refused-requires-4
+    (λ c κs. search needs)
     returns-4
     add-fault-4
-    fault-requires-5
+    (λ c κs. search needs)
     add-refused-4
-    refused-requires-5
+    (λ c κs. search needs)
     returns-5
     add-t9
     shared-slice-read-t15

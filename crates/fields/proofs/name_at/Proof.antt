@@ -7,15 +7,6 @@ use Rattle.fields.proofs.References.{name-on, name-known, name-unknown}
 use Rattle.fields.proofs.name_at.Statement.{statement}
 use Rattle.fields.proofs.name_at.Tie as tie
 
-read-requires : tie.Need-read-requires
-read-requires c κs = search needs
-
-enum-known-number : tie.Need-enum-known-number
-enum-known-number c = search needs
-
-enum-known-value : tie.Need-enum-known-value
-enum-known-value c = search needs
-
 returns : tie.Need-returns
 returns c = (name-on (c .before .before .before .before .before .args .known) (c .before .before .before .before .before .args .doc .now) (c .before .before .before .before .before .args .at) (c .before .before .before .read .ensures .0) (c .before .number .given .1), tt)
 
@@ -30,4 +21,4 @@ returns-3 c = (name-unknown (c .before .before .before .before .before .before .
 pub name-at-spec : {M : Type 1} → statement M
 name-at-spec =
     tie.close
-    (tie.spec read-requires enum-known-number enum-known-value returns returns-2 returns-3)
+    (tie.spec (λ c κs. search needs) (λ c. search needs) (λ c. search needs) returns returns-2 returns-3)

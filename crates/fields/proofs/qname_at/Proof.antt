@@ -8,15 +8,6 @@ use native.Mathlib.Omega.{arith}
 use Rattle.fields.proofs.qname_at.Statement.{statement}
 use Rattle.fields.proofs.qname_at.Tie as tie
 
-read-requires : tie.Need-read-requires
-read-requires c κs = search needs
-
-enum-known-number : tie.Need-enum-known-number
-enum-known-number c = search needs
-
-enum-known-value : tie.Need-enum-known-value
-enum-known-value c = search needs
-
 returns : tie.Need-returns
 returns c = (qname-zero (c .before .before .before .before .before .before .args .known) (c .before .before .before .before .before .before .args .at) (c .before .before .value .given .0 .0) (c .before .before .value .given .0 .1 .0) (c .if1 .taken) ∙ qname-on (c .before .before .before .before .before .before .args .known) (c .before .before .before .before .before .before .args .doc .now) (c .before .before .before .before .before .before .args .at) (c .before .before .before .before .read .ensures .0) (c .before .before .value .given .1), tt)
 
@@ -35,9 +26,9 @@ pub qname-at-spec : {M : Type 1} → statement M
 qname-at-spec =
     tie.close
     (tie.spec
-    read-requires
-    enum-known-number
-    enum-known-value
+    (λ c κs. search needs)
+    (λ c. search needs)
+    (λ c. search needs)
     returns
     returns-2
     returns-3

@@ -1,5 +1,5 @@
 -- `fields::refused` meets its contract. Assumes nothing.
-use Rattle.lists.proofs.Tests.{tests}
+use Rattle.sequences.proofs.Tests.{tests}
 use Rattle.fields.specs.Faults.{refusedBy}
 use Rattle.fields.proofs.refused.Statement.{statement}
 use Rattle.fields.proofs.refused.Tie as tie

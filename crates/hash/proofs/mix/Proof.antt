@@ -4,17 +4,11 @@ use borrow.Author.Needs.{needs}
 use Rattle.hash.proofs.mix.Statement.{statement}
 use Rattle.hash.proofs.mix.Tie as tie
 
-mul-result : tie.Need-mul-result
-mul-result c = search needs
-
 add-result : tie.Need-add-result
 add-result c = record { fits = carry _ _ (low (c .args .h)) (high (c .args .h) (c .fits .h .fits)) }
 
 add-result-2 : tie.Need-add-result-2
 add-result-2 c = record { fits = carry-more _ _ _ (low (c .args .h)) (high (c .args .h) (c .fits .h .fits)) (c .fits .x .fits) }
 
-returns : tie.Need-returns
-returns c = search needs
-
 pub mix-spec : {M : Type 1} → statement M
-mix-spec = tie.close (tie.spec mul-result add-result add-result-2 returns)
+mix-spec = tie.close (tie.spec (λ c. search needs) add-result add-result-2 (λ c. search needs))

@@ -1,5 +1,5 @@
 -- `lister::list` meets its contract: each of the three arrays has the room that its test asks for. Assumes nothing.
-use Rattle.lister.proofs.Listed.{filled, refused, listed}
+use Rattle.lister_contract.proofs.Listed.{filled, refused, listed}
 use native.Mathlib.Omega.{arith}
 use mathlib.Core.Path.{sym}
 use Prim.Native.Nat.{ℕ}
@@ -8,21 +8,6 @@ use Rattle.filled.proofs.Filled.{read-short}
 use borrow.Author.Needs.{needs}
 use Rattle.lister.proofs.list.Statement.{statement}
 use Rattle.lister.proofs.list.Tie as tie
-
-read-requires : tie.Need-read-requires
-read-requires c κs = search needs
-
-refused-requires : tie.Need-refused-requires
-refused-requires c κs = search needs
-
-same-length : tie.Need-same-length
-same-length c = search needs
-
-same-length-2 : tie.Need-same-length-2
-same-length-2 c = search needs
-
-same-length-3 : tie.Need-same-length-3
-same-length-3 c = search needs
 
 returns : tie.Need-returns
 returns c = refused (c .before .before .before .before .before .before .before .before .before .read .ensures) (c .before .if1 .taken) (c .refused .ensures)
@@ -67,9 +52,6 @@ same-length-5 c = c .before .before .before .before .before .before .before .bef
 same-length-6 : tie.Need-same-length-6
 same-length-6 c = c .before .before .before .before .before .before .before .before .before .before .before .before .before .before .before .before .before .before .before .read .kept .1 .1 .1 .0
 
-same-length-7 : tie.Need-same-length-7
-same-length-7 c = search needs
-
 returns-2 : tie.Need-returns-2
 returns-2 c = listed (c .before .before .before .before .before .before .before .before .before .before .before .before .before .before .before .before .before .before .before .before .before .before .before .before .before .before .before .before .args .doc .now) (c .before .before .before .before .before .before .before .before .before .before .before .before .before .before .before .before .before .before .before .read .ensures) (c .before .before .before .before .before .before .before .before .before .before .before .if1 .left) (c .before .before .before .list-tables .ensures)
 
@@ -91,9 +73,6 @@ same-length-9 c = c .before .before .before .before .before .before .before .bef
 
 same-length-10 : tie.Need-same-length-10
 same-length-10 c = c .before .before .before .before .before .before .before .before .before .before .before .before .before .before .before .before .before .before .before .before .read .kept .1 .1 .1 .0
-
-same-length-11 : tie.Need-same-length-11
-same-length-11 c = search needs
 
 returns-3 : tie.Need-returns-3
 returns-3 c = listed (c .before .before .before .before .before .before .before .before .before .before .before .before .before .before .before .before .before .before .before .before .before .before .before .before .before .before .before .before .before .args .doc .now) (c .before .before .before .before .before .before .before .before .before .before .before .before .before .before .before .before .before .before .before .before .read .ensures) (c .before .before .before .before .before .before .before .before .before .before .before .before .if1 .left) (c .before .before .before .list-tables2 .ensures)
@@ -117,9 +96,6 @@ same-length-13 c = c .before .before .before .before .before .before .before .be
 same-length-14 : tie.Need-same-length-14
 same-length-14 c = c .before .before .before .before .before .before .before .before .before .before .before .before .before .before .before .before .before .before .before .before .read .kept .1 .1 .1 .0
 
-same-length-15 : tie.Need-same-length-15
-same-length-15 c = search needs
-
 returns-4 : tie.Need-returns-4
 returns-4 c = listed (c .before .before .before .before .before .before .before .before .before .before .before .before .before .before .before .before .before .before .before .before .before .before .before .before .before .before .before .before .before .args .doc .now) (c .before .before .before .before .before .before .before .before .before .before .before .before .before .before .before .before .before .before .before .before .read .ensures) (c .before .before .before .before .before .before .before .before .before .before .before .before .if1 .left) (c .before .before .before .list-tables3 .ensures)
 
@@ -127,11 +103,11 @@ pub list-spec : {M : Type 1} → statement M
 list-spec =
     tie.close
     (tie.spec
-    read-requires
-    refused-requires
-    same-length
-    same-length-2
-    same-length-3
+    (λ c κs. search needs)
+    (λ c κs. search needs)
+    (λ c. search needs)
+    (λ c. search needs)
+    (λ c. search needs)
     returns
     mul-need
     mul-need-2
@@ -141,19 +117,19 @@ list-spec =
     same-length-4
     same-length-5
     same-length-6
-    same-length-7
+    (λ c. search needs)
     returns-2
     slice-aggregate-list-tables-2
     list-tables-requires-2
     same-length-8
     same-length-9
     same-length-10
-    same-length-11
+    (λ c. search needs)
     returns-3
     slice-aggregate-list-tables-3
     list-tables-requires-3
     same-length-12
     same-length-13
     same-length-14
-    same-length-15
+    (λ c. search needs)
     returns-4)

@@ -1,10 +1,10 @@
 -- `lister::list_tables` meets its contract. Assumes nothing.
-use Rattle.lister.proofs.Listed.{renderable, too-small, written, numbers-fit}
+use Rattle.lister_contract.proofs.Listed.{renderable, too-small, written, numbers-fit}
 use native.Mathlib.Omega.{arith}
 use mathlib.Core.Path.{refl, sym}
 use Prim.Native.Nat.{ℕ}
 use lib.ListN.{length-replicate}
-use Rattle.lists.specs.Lists.{Bytes}
+use Rattle.sequences.specs.Lists.{Bytes}
 use borrow.Author.Needs.{needs}
 use Rattle.lister.proofs.list_tables.Statement.{statement}
 use Rattle.lister.proofs.list_tables.Tie as tie
@@ -27,9 +27,6 @@ link-requires c κs =
     let g = c .before .before .before .before .before .before .render .ensures in
     (g .few, g .cut, length-replicate {A = ℕ} 2048 1, g .hashes-are)
 
-same-length : tie.Need-same-length
-same-length c = search needs
-
 returns : tie.Need-returns
 returns c =
     let f = c .before .before .before .before .before .before .before .before .before .before .before .before .before .before .before .before .before .before .before .before .before .pre .0 in
@@ -46,12 +43,6 @@ write-pairs-requires c κs =
     let l = c .before .before .before .before .before .link .ensures in
     (g .few, l .2, l .1, numbers-fit _ _ _ (l .0) (c .before .before .before .before .if1 .left))
 
-same-length-2 : tie.Need-same-length-2
-same-length-2 c = search needs
-
-same-length-3 : tie.Need-same-length-3
-same-length-3 c = search needs
-
 returns-2 : tie.Need-returns-2
 returns-2 c =
     let f = c .before .before .before .before .before .before .before .before .before .before .before .before .before .before .before .before .before .before .before .before .before .before .before .before .before .before .before .before .pre .0 in
@@ -67,10 +58,10 @@ list-tables-spec =
     render-requires
     slice-aggregate-link
     link-requires
-    same-length
+    (λ c. search needs)
     returns
     slice-aggregate-write-pairs
     write-pairs-requires
-    same-length-2
-    same-length-3
+    (λ c. search needs)
+    (λ c. search needs)
     returns-2)

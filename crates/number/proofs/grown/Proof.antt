@@ -17,11 +17,5 @@ add-sum c =
     let p = product-fits (a .value) (a .scale) (a .bits) (c .pre .0) (c .pre .1) (c .pre .2) in
     record { fits = omega arith }
 
-returns : tie.Need-returns
-returns c = search needs
-
-returns-2 : tie.Need-returns-2
-returns-2 c = search needs
-
 pub grown-spec : {M : Type 1} → statement M
-grown-spec = tie.close (tie.spec mul-sum add-sum returns returns-2)
+grown-spec = tie.close (tie.spec mul-sum add-sum (λ c. search needs) (λ c. search needs))

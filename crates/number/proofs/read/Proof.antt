@@ -1,6 +1,5 @@
 -- `number::read` meets its contract. The invariant: what is still to be read completes the number (`Going`). The measure is
 -- the number of bytes that may still be taken. Assumes nothing.
-use Prim.Native.Nat.{ℕ, _+_, _≤_, _<_}
 use borrow.Author.Needs.{needs}
 use native.Mathlib.Omega.{arith}
 use Rattle.number.proofs.Going.{Going, going-start, too-many, too-short, too-large, found, going-on}
@@ -16,12 +15,6 @@ abbrev μ-loop : tie.MeasureT-loop
 loop-holds : tie.Need-loop-holds Inv-loop μ-loop
 loop-holds c = going-start _ _ _
 
-shared-slice-read-wide : tie.Need-shared-slice-read-wide Inv-loop μ-loop
-shared-slice-read-wide c = search needs
-
-wide-requires : tie.Need-wide-requires Inv-loop μ-loop
-wide-requires c κs = search needs
-
 grown-requires : tie.Need-grown-requires Inv-loop μ-loop
 grown-requires c κs =
     let g = c .before .before .before .before .loop .inv in
@@ -29,17 +22,8 @@ grown-requires c κs =
     let u = g .unit-kept in
     (omega arith, omega arith, omega arith)
 
-add-next : tie.Need-add-next Inv-loop μ-loop
-add-next c = search needs
-
 raised-requires : tie.Need-raised-requires Inv-loop μ-loop
 raised-requires c κs = let u = c .before .before .before .before .before .before .loop .inv .unit-kept in omega arith
-
-sub-left : tie.Need-sub-left Inv-loop μ-loop
-sub-left c = search needs
-
-loop-less : tie.Need-loop-less Inv-loop μ-loop
-loop-less c = search needs
 
 loop-again : tie.Need-loop-again Inv-loop μ-loop
 loop-again c =
@@ -72,13 +56,13 @@ read-spec =
     Inv-loop
     μ-loop
     loop-holds
-    shared-slice-read-wide
-    wide-requires
+    (λ c. search needs)
+    (λ c κs. search needs)
     grown-requires
-    add-next
+    (λ c. search needs)
     raised-requires
-    sub-left
-    loop-less
+    (λ c. search needs)
+    (λ c. search needs)
     loop-again
     returns
     returns-2

@@ -1,6 +1,6 @@
 -- `number::size` meets its contract: the ranges of 004's table, in their order. Assumes nothing.
 use borrow.Author.Needs.{needs}
-use Rattle.lists.proofs.Tests.{tests}
+use Rattle.sequences.proofs.Tests.{tests}
 use Rattle.number.specs.Number.{sizeOf}
 use Rattle.number.proofs.size.Statement.{statement}
 use Rattle.number.proofs.size.Tie as tie

@@ -3,17 +3,8 @@ use borrow.Author.Needs.{needs}
 use Rattle.reader.proofs.room_of.Statement.{statement}
 use Rattle.reader.proofs.room_of.Tie as tie
 
-least-requires : tie.Need-least-requires
-least-requires c κs = search needs
-
-least-requires-2 : tie.Need-least-requires-2
-least-requires-2 c κs = search needs
-
-least-requires-3 : tie.Need-least-requires-3
-least-requires-3 c κs = search needs
-
 returns : tie.Need-returns
 returns c = rw (c .least3 .ensures, c .before .least2 .ensures, c .before .before .least .ensures)
 
 pub room-of-spec : {M : Type 1} → statement M
-room-of-spec = tie.close (tie.spec least-requires least-requires-2 least-requires-3 returns)
+room-of-spec = tie.close (tie.spec (λ c κs. search needs) (λ c κs. search needs) (λ c κs. search needs) returns)

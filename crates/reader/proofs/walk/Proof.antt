@@ -2,8 +2,8 @@
 use borrow.Author.Needs.{needs}
 use Prim.Native.Nat.{ℕ, suc, _-_}
 use lib.ListN.{length, length-replicate}
-use Rattle.reader.specs.Machine.{run, started}
-use Rattle.reader.specs.Tables.{tables}
+use Rattle.machine.specs.Machine.{run, started}
+use Rattle.rows.specs.Tables.{tables}
 use Rattle.reader.proofs.Walks.{Walks, goes, held-here, going, nearer, ending, starting}
 use Rattle.reader.proofs.Short.{common-fine, ended, begun, valued}
 use native.Mathlib.Omega.{arith}
@@ -16,23 +16,11 @@ Inv-loop table doc names₀ qnames₀ events₀ room version next stack₀ qstac
 abbrev μ-loop : tie.MeasureT-loop
 μ-loop table doc names₀ qnames₀ events₀ room version next stack₀ qstack₀ frames₀ v₀ names qnames events stack qstack frames v = length doc - v .at
 
-first-view-requires : tie.Need-first-view-requires Inv-loop μ-loop
-first-view-requires c κs = search needs
-
 loop-holds : tie.Need-loop-holds Inv-loop μ-loop
 loop-holds c =
     let a = c .before .before .before .before .before .args in
     rw (c .first-view .ensures)
     (starting (a .doc .now) (a .room) (a .version) (a .next) _ _ _ _ _ _ (c .before .before .before .before .before .pre .1) (length-replicate {A = ℕ} 1024 1) (length-replicate {A = ℕ} 1024 1) (length-replicate {A = ℕ} 48 0))
-
-common-at-requires : tie.Need-common-at-requires Inv-loop μ-loop
-common-at-requires c κs = search needs
-
-enum-told : tie.Need-enum-told Inv-loop μ-loop
-enum-told c = search needs
-
-enum-told-2 : tie.Need-enum-told-2 Inv-loop μ-loop
-enum-told-2 c = search needs
 
 add-close-element : tie.Need-add-close-element Inv-loop μ-loop
 add-close-element c = let h = held-here (c .before .before .before .before .before .loop .inv) in omega arith
@@ -51,9 +39,6 @@ loop-less c = let o = ended (c .before .before .before .before .before .before .
 loop-again : tie.Need-loop-again Inv-loop μ-loop
 loop-again c = ended (c .before .before .before .before .before .before .before .before .loop .inv) (c .before .before .before .before .before .before .before .common-at .ensures) (c .before .before .before .before .before .enum-told2 .given .1) (c .before .before .close-element .ensures .0) (c .before .before .close-element .ensures .1) .walks
 
-enum-known-common : tie.Need-enum-known-common Inv-loop μ-loop
-enum-known-common c = search needs
-
 add-add-element : tie.Need-add-add-element Inv-loop μ-loop
 add-add-element c = let h = held-here (c .before .before .before .before .before .before .before .loop .inv) in omega arith
 
@@ -71,9 +56,6 @@ loop-less-2 c = let o = begun (c .before .before .before .before .before .before
 loop-again-2 : tie.Need-loop-again-2 Inv-loop μ-loop
 loop-again-2 c = begun (c .before .before .before .before .before .before .before .before .before .before .loop .inv) (c .before .before .before .before .before .before .before .before .before .common-at .ensures) (c .before .before .before .before .before .before .before .common .given .1) (c .before .before .add-element .ensures .0) (c .before .before .add-element .ensures .1) .walks
 
-enum-known-common-2 : tie.Need-enum-known-common-2 Inv-loop μ-loop
-enum-known-common-2 c = search needs
-
 add-value-requires : tie.Need-add-value-requires Inv-loop μ-loop
 add-value-requires c κs =
     let l = c .before .before .before .before .before .loop in
@@ -87,15 +69,6 @@ loop-less-3 c = let o = valued (c .before .before .before .before .before .befor
 
 loop-again-3 : tie.Need-loop-again-3 Inv-loop μ-loop
 loop-again-3 c = valued (c .before .before .before .before .before .before .before .before .loop .inv) (c .before .before .before .before .before .before .before .common-at .ensures) (c .before .before .before .before .before .common2 .given .1) (c .before .before .add-value .ensures .0) (c .before .before .add-value .ensures .1) .walks
-
-step-at-requires : tie.Need-step-at-requires Inv-loop μ-loop
-step-at-requires c κs = search needs
-
-enum-known-step : tie.Need-enum-known-step Inv-loop μ-loop
-enum-known-step c = search needs
-
-answered-requires : tie.Need-answered-requires Inv-loop μ-loop
-answered-requires c κs = search needs
 
 turn-requires : tie.Need-turn-requires Inv-loop μ-loop
 turn-requires c κs = (held-here (c .before .before .before .before .before .before .before .before .before .before .before .loop .inv), c .before .before .before .before .before .before .before .step-at .ensures .1)
@@ -124,27 +97,27 @@ walk-spec =
     (tie.spec
     Inv-loop
     μ-loop
-    first-view-requires
+    (λ c κs. search needs)
     loop-holds
-    common-at-requires
-    enum-told
-    enum-told-2
+    (λ c κs. search needs)
+    (λ c. search needs)
+    (λ c. search needs)
     add-close-element
     close-element-requires
     loop-less
     loop-again
-    enum-known-common
+    (λ c. search needs)
     add-add-element
     add-element-requires
     loop-less-2
     loop-again-2
-    enum-known-common-2
+    (λ c. search needs)
     add-value-requires
     loop-less-3
     loop-again-3
-    step-at-requires
-    enum-known-step
-    answered-requires
+    (λ c κs. search needs)
+    (λ c. search needs)
+    (λ c κs. search needs)
     turn-requires
     loop-less-4
     loop-again-4

@@ -7,26 +7,11 @@ use borrow.Author.Needs.{needs}
 use Rattle.render.proofs.end_attributes.Statement.{statement}
 use Rattle.render.proofs.end_attributes.Tie as tie
 
-with-attribute-requires : tie.Need-with-attribute-requires
-with-attribute-requires c κs = search needs
-
 returns : tie.Need-returns
 returns c = out-row _ _ _ _ _ _ (c .before .if1 .taken) (c .with-attribute .ensures)
 
-cursor-of-requires : tie.Need-cursor-of-requires
-cursor-of-requires c κs = search needs
-
 put-close-requires : tie.Need-put-close-requires
 put-close-requires c κs = rw (c .cursor-of .ensures) (c .before .before .before .before .before .pre)
-
-moved-requires : tie.Need-moved-requires
-moved-requires c κs = search needs
-
-with-attribute-requires-2 : tie.Need-with-attribute-requires-2
-with-attribute-requires-2 c κs = search needs
-
-same-length : tie.Need-same-length
-same-length c = search needs
 
 returns-2 : tie.Need-returns-2
 returns-2 c = row-as (out-in _ (c .before .before .before .before .before .before .before .if1 .left) refl) refl refl (row-hashed _ _ (c .before .before .before .before .before .cursor-of .ensures) (c .before .before .before .before .put-close .ensures) _ (c .with-attribute2 .ensures ∙ ap (λ (r : Progress). attributed r 0) (c .before .moved .ensures)))
@@ -35,11 +20,11 @@ pub end-attributes-spec : {M : Type 1} → statement M
 end-attributes-spec =
     tie.close
     (tie.spec
-    with-attribute-requires
+    (λ c κs. search needs)
     returns
-    cursor-of-requires
+    (λ c κs. search needs)
     put-close-requires
-    moved-requires
-    with-attribute-requires-2
-    same-length
+    (λ c κs. search needs)
+    (λ c κs. search needs)
+    (λ c. search needs)
     returns-2)

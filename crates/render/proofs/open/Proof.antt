@@ -5,26 +5,8 @@ use borrow.Author.Needs.{needs}
 use Rattle.render.proofs.open.Statement.{statement}
 use Rattle.render.proofs.open.Tie as tie
 
-sub-mark : tie.Need-sub-mark
-sub-mark c = search needs
-
-mul-mark : tie.Need-mul-mark
-mul-mark c = search needs
-
-element-copy-out-mark : tie.Need-element-copy-out-mark
-element-copy-out-mark c = search needs
-
-cursor-of-requires : tie.Need-cursor-of-requires
-cursor-of-requires c κs = search needs
-
 put-one-requires : tie.Need-put-one-requires
 put-one-requires c κs = rw (c .cursor-of .ensures) (c .before .before .before .before .pre .2)
-
-add-t7 : tie.Need-add-t7
-add-t7 c = search needs
-
-same-length : tie.Need-same-length
-same-length c = search needs
 
 returns : tie.Need-returns
 returns c = row-as (opened-is _ _ _ refl) refl refl (row-hashed _ _ (c .before .before .before .before .cursor-of .ensures) (c .before .before .before .put-one .ensures) _ refl)
@@ -33,11 +15,11 @@ pub open-spec : {M : Type 1} → statement M
 open-spec =
     tie.close
     (tie.spec
-    sub-mark
-    mul-mark
-    element-copy-out-mark
-    cursor-of-requires
+    (λ c. search needs)
+    (λ c. search needs)
+    (λ c. search needs)
+    (λ c κs. search needs)
     put-one-requires
-    add-t7
-    same-length
+    (λ c. search needs)
+    (λ c. search needs)
     returns)

@@ -1,6 +1,6 @@
 -- `render::put_attribute` meets its contract: one way outside of a record, one for an attribute that declares a prefix, one for any other. Assumes nothing.
 use Rattle.render.proofs.Rows.{row-as, row-hashed, out-row, out-in, declared-number, declared-two, declared-bare, counted-one, counted-mark, close-few}
-use Rattle.render.proofs.Going.{hashed-then, put-long}
+use Rattle.symbols.proofs.Going.{hashed-then, put-long}
 use mathlib.Core.Path.{refl, ap, _∙_}
 use Rattle.render.specs.Effects.{attributed}
 use Rattle.render.specs.declared.Progress.{Progress}
@@ -10,38 +10,11 @@ use borrow.Author.Needs.{needs}
 use Rattle.render.proofs.put_attribute.Statement.{statement}
 use Rattle.render.proofs.put_attribute.Tie as tie
 
-sub-mark : tie.Need-sub-mark
-sub-mark c = search needs
-
-mul-mark : tie.Need-mul-mark
-mul-mark c = search needs
-
-element-copy-out-mark : tie.Need-element-copy-out-mark
-element-copy-out-mark c = search needs
-
-counts-requires : tie.Need-counts-requires
-counts-requires c κs = search needs
-
-with-attribute-requires : tie.Need-with-attribute-requires
-with-attribute-requires c κs = search needs
-
 returns : tie.Need-returns
 returns c = row-as refl (declared-number (c .before .before .before .before .before .before .args .marks .now) (c .before .before .before .before .before .before .args .row) _ refl _ (c .before .counts .ensures)) refl (out-row _ _ _ _ _ _ (c .before .before .if1 .taken) (c .with-attribute .ensures))
 
-cursor-of-requires : tie.Need-cursor-of-requires
-cursor-of-requires c κs = search needs
-
 put-close-requires : tie.Need-put-close-requires
 put-close-requires c κs = rw (c .cursor-of .ensures) (omega (arith, c .before .before .before .before .before .before .pre .2))
-
-moved-requires : tie.Need-moved-requires
-moved-requires c κs = search needs
-
-with-attribute-requires-2 : tie.Need-with-attribute-requires-2
-with-attribute-requires-2 c κs = search needs
-
-same-length : tie.Need-same-length
-same-length c = search needs
 
 returns-2 : tie.Need-returns-2
 returns-2 c =
@@ -58,15 +31,6 @@ put-one-requires c κs =
     let l = put-long (i .put) in
     omega (arith, i .put .to-is, c .before .before .before .before .before .before .before .before .before .before .before .pre .2)
 
-moved-requires-2 : tie.Need-moved-requires-2
-moved-requires-2 c κs = search needs
-
-with-attribute-requires-3 : tie.Need-with-attribute-requires-3
-with-attribute-requires-3 c κs = search needs
-
-same-length-2 : tie.Need-same-length-2
-same-length-2 c = search needs
-
 returns-3 : tie.Need-returns-3
 returns-3 c =
     row-as (out-in _ (c .before .before .before .before .before .before .before .before .before .before .before .before .if1 .left) (counted-mark (c .before .before .before .before .before .before .before .before .before .before .before .before .before .before .before .before .args .marks .now) (c .before .before .before .before .before .before .before .before .before .before .before .before .before .before .before .before .args .row) _ refl (closeBy (c .before .before .before .before .before .before .before .before .before .before .before .before .before .before .before .before .args .p .attribute)) (c .before .before .before .before .before .before .if2 .left))) (counted-one (c .before .before .before .before .before .before .before .before .before .before .before .before .before .before .before .before .args .marks .now) (c .before .before .before .before .before .before .before .before .before .before .before .before .before .before .before .before .args .row) _ refl (c .before .before .before .before .before .before .if2 .left)) refl
@@ -76,21 +40,21 @@ pub put-attribute-spec : {M : Type 1} → statement M
 put-attribute-spec =
     tie.close
     (tie.spec
-    sub-mark
-    mul-mark
-    element-copy-out-mark
-    counts-requires
-    with-attribute-requires
+    (λ c. search needs)
+    (λ c. search needs)
+    (λ c. search needs)
+    (λ c κs. search needs)
+    (λ c κs. search needs)
     returns
-    cursor-of-requires
+    (λ c κs. search needs)
     put-close-requires
-    moved-requires
-    with-attribute-requires-2
-    same-length
+    (λ c κs. search needs)
+    (λ c κs. search needs)
+    (λ c. search needs)
     returns-2
     add-put-one
     put-one-requires
-    moved-requires-2
-    with-attribute-requires-3
-    same-length-2
+    (λ c κs. search needs)
+    (λ c κs. search needs)
+    (λ c. search needs)
     returns-3)

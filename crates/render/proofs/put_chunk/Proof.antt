@@ -1,11 +1,11 @@
 -- `render::put_chunk` meets its contract. Assumes nothing.
 use Rattle.render.proofs.Rows.{row-as, row-hashed, out-row, out-in, span, part-few}
-use Rattle.render.proofs.Texts.{units-long}
+use Rattle.symbols.proofs.Texts.{units-long}
 use mathlib.Core.Path.{refl, ap}
 use native.Mathlib.Omega.{arith}
 use Prim.Native.Nat.{_+_, _-_, _*_}
 use lib.ListN.{take, drop}
-use Rattle.lists.specs.Lists.{unitsOf}
+use Rattle.sequences.specs.Lists.{unitsOf}
 use borrow.Author.Needs.{needs}
 use Rattle.render.proofs.put_chunk.Statement.{statement}
 use Rattle.render.proofs.put_chunk.Tie as tie
@@ -19,17 +19,8 @@ mul-end c = omega (arith, c .before .before .before .before .pre .0)
 add-end : tie.Need-add-end
 add-end c = omega (arith, c .before .before .before .before .pre .0)
 
-sub-put-units : tie.Need-sub-put-units
-sub-put-units c = search needs
-
-part-put-units-start : tie.Need-part-put-units-start
-part-put-units-start c = search needs
-
 part-put-units-end : tie.Need-part-put-units-end
 part-put-units-end c = omega (arith, c .before .before .before .before .pre .0)
-
-cursor-of-requires : tie.Need-cursor-of-requires
-cursor-of-requires c κs = search needs
 
 put-units-requires : tie.Need-put-units-requires
 put-units-requires c κs =
@@ -38,12 +29,6 @@ put-units-requires c κs =
     let n = c .before .before .before .before .before .before .before .args .units in
     let u = units-long (take (a + 2 * n - a) (drop a d)) in
     rw (c .cursor-of .ensures) (omega (arith, u .0, part-few d a (2 * n), c .before .before .before .before .before .before .before .pre .1))
-
-moved-requires : tie.Need-moved-requires
-moved-requires c κs = search needs
-
-same-length : tie.Need-same-length
-same-length c = search needs
 
 returns-2 : tie.Need-returns-2
 returns-2 c = row-as (out-in _ (c .before .before .before .before .before .before .before .if1 .left) (ap unitsOf (span (c .before .before .before .before .before .before .before .before .before .before .before .args .place) (2 * c .before .before .before .before .before .before .before .before .before .before .before .args .units) (c .before .before .before .before .before .before .before .before .before .before .before .args .doc .now)))) refl refl (row-hashed _ _ (c .before .before .before .before .cursor-of .ensures) (c .before .before .before .put-units .ensures) _ (c .moved .ensures))
@@ -55,11 +40,11 @@ put-chunk-spec =
     returns
     mul-end
     add-end
-    sub-put-units
-    part-put-units-start
+    (λ c. search needs)
+    (λ c. search needs)
     part-put-units-end
-    cursor-of-requires
+    (λ c κs. search needs)
     put-units-requires
-    moved-requires
-    same-length
+    (λ c κs. search needs)
+    (λ c. search needs)
     returns-2)

@@ -1,15 +1,9 @@
 -- `render::put_close` meets its contract. Assumes nothing.
-use Rattle.render.proofs.Going.{hashed-as, hashed-none}
+use Rattle.symbols.proofs.Going.{hashed-as, hashed-none}
 use Rattle.render.proofs.Rows.{close-one, close-none}
 use borrow.Author.Needs.{needs}
 use Rattle.render.proofs.put_close.Statement.{statement}
 use Rattle.render.proofs.put_close.Tie as tie
-
-put-one-requires : tie.Need-put-one-requires
-put-one-requires c κs = search needs
-
-same-length : tie.Need-same-length
-same-length c = search needs
 
 returns : tie.Need-returns
 returns c = hashed-as (close-one _ (c .before .before .before .before .if1 .taken)) (c .before .before .put-one .ensures)
@@ -18,4 +12,4 @@ returns-2 : tie.Need-returns-2
 returns-2 c = hashed-as (close-none _ (c .if1 .left)) (hashed-none _ _)
 
 pub put-close-spec : {M : Type 1} → statement M
-put-close-spec = tie.close (tie.spec put-one-requires same-length returns returns-2)
+put-close-spec = tie.close (tie.spec (λ c κs. search needs) (λ c. search needs) returns returns-2)

@@ -9,9 +9,6 @@ use Rattle.render.proofs.put_other.Tie as tie
 put-value-requires : tie.Need-put-value-requires
 put-value-requires c κs = (c .before .before .before .before .pre .0, c .before .before .before .before .pre .1, c .before .if1 .taken, c .before .before .before .before .pre .2)
 
-same-length : tie.Need-same-length
-same-length c = search needs
-
 returns : tie.Need-returns
 returns c = row-as (row-value (c .before .before .before .before .before .before .before .args .doc .now) (c .before .before .before .before .before .before .before .args .marks .now) (c .before .before .before .before .before .before .before .args .p .depth) (c .before .before .before .before .before .before .before .args .p .attribute) (c .before .before .before .before .before .before .before .args .token) (c .before .before .before .before .before .before .before .args .a) (c .before .before .before .before .before .before .before .args .b) (c .before .before .before .before .if1 .taken)) (attribute-stays (c .before .before .before .before .before .before .before .args .marks .now) (c .before .before .before .before .before .before .before .args .p .attribute) (c .before .before .before .before .before .before .before .args .token) (c .before .before .before .before .before .before .before .args .a) (low-apart _ _ (c .before .before .before .before .if1 .taken) (omega arith)) (low-apart _ _ (c .before .before .before .before .if1 .taken) (omega arith))) (depth-same (c .before .before .before .before .before .before .before .args .p .depth) (c .before .before .before .before .before .before .before .args .token) (c .before .before .before .before .before .before .before .pre .3) (c .before .before .before .before .before .before .before .pre .4)) (c .before .before .put-value .ensures)
 
@@ -24,20 +21,11 @@ end-attributes-requires c κs = omega (arith, c .before .before .before .before 
 put-chunk-requires : tie.Need-put-chunk-requires
 put-chunk-requires c κs = (c .before .before .before .before .before .pre .1 .chunk (c .before .match .keys3), omega (arith, c .before .before .before .before .before .pre .2, room-chunk (c .before .before .before .before .before .args .token) (c .before .before .before .before .before .args .b) (c .before .match .keys3)))
 
-same-length-2 : tie.Need-same-length-2
-same-length-2 c = search needs
-
 returns-2 : tie.Need-returns-2
 returns-2 c = row-as (row-F6 (c .before .before .before .before .before .before .before .before .args .doc .now) (c .before .before .before .before .before .before .before .before .args .marks .now) (c .before .before .before .before .before .before .before .before .args .p .depth) (c .before .before .before .before .before .before .before .before .args .p .attribute) (c .before .before .before .before .before .before .before .before .args .token) (c .before .before .before .before .before .before .before .before .args .a) (c .before .before .before .before .before .before .before .before .args .b) (c .before .before .before .before .match .keys1)) (attribute-F6 (c .before .before .before .before .before .before .before .before .args .marks .now) (c .before .before .before .before .before .before .before .before .args .p .attribute) (c .before .before .before .before .before .before .before .before .args .token) (c .before .before .before .before .before .before .before .before .args .a) (c .before .before .before .before .match .keys1)) (depth-same (c .before .before .before .before .before .before .before .before .args .p .depth) (c .before .before .before .before .before .before .before .before .args .token) (c .before .before .before .before .before .before .before .before .pre .3) (c .before .before .before .before .before .before .before .before .pre .4)) (c .before .before .put-attribute .ensures)
 
-same-length-3 : tie.Need-same-length-3
-same-length-3 c = search needs
-
 returns-3 : tie.Need-returns-3
 returns-3 c = row-as (row-F5 (c .before .before .before .before .before .before .before .before .args .doc .now) (c .before .before .before .before .before .before .before .before .args .marks .now) (c .before .before .before .before .before .before .before .before .args .p .depth) (c .before .before .before .before .before .before .before .before .args .p .attribute) (c .before .before .before .before .before .before .before .before .args .token) (c .before .before .before .before .before .before .before .before .args .a) (c .before .before .before .before .before .before .before .before .args .b) (c .before .before .before .before .match .keys2)) (attribute-F5 (c .before .before .before .before .before .before .before .before .args .marks .now) (c .before .before .before .before .before .before .before .before .args .p .attribute) (c .before .before .before .before .before .before .before .before .args .token) (c .before .before .before .before .before .before .before .before .args .a) (c .before .before .before .before .match .keys2)) (depth-same (c .before .before .before .before .before .before .before .before .args .p .depth) (c .before .before .before .before .before .before .before .before .args .token) (c .before .before .before .before .before .before .before .before .pre .3) (c .before .before .before .before .before .before .before .before .pre .4)) (c .before .before .end-attributes .ensures)
-
-same-length-4 : tie.Need-same-length-4
-same-length-4 c = search needs
 
 returns-4 : tie.Need-returns-4
 returns-4 c = row-as (row-F2 (c .before .before .before .before .before .before .before .before .args .doc .now) (c .before .before .before .before .before .before .before .before .args .marks .now) (c .before .before .before .before .before .before .before .before .args .p .depth) (c .before .before .before .before .before .before .before .before .args .p .attribute) (c .before .before .before .before .before .before .before .before .args .token) (c .before .before .before .before .before .before .before .before .args .a) (c .before .before .before .before .before .before .before .before .args .b) (c .before .before .before .before .match .keys3)) (attribute-stays (c .before .before .before .before .before .before .before .before .args .marks .now) (c .before .before .before .before .before .before .before .before .args .p .attribute) (c .before .before .before .before .before .before .before .before .args .token) (c .before .before .before .before .before .before .before .before .args .a) (apart _ _ _ (c .before .before .before .before .match .keys3) (λ e. let x : ⊥ = omega arith in x)) (apart _ _ _ (c .before .before .before .before .match .keys3) (λ e. let x : ⊥ = omega arith in x))) (depth-same (c .before .before .before .before .before .before .before .before .args .p .depth) (c .before .before .before .before .before .before .before .before .args .token) (c .before .before .before .before .before .before .before .before .pre .3) (c .before .before .before .before .before .before .before .before .pre .4)) (c .before .before .put-chunk .ensures)
@@ -52,15 +40,15 @@ put-other-spec =
     tie.close
     (tie.spec
     put-value-requires
-    same-length
+    (λ c. search needs)
     returns
     put-attribute-requires
     end-attributes-requires
     put-chunk-requires
-    same-length-2
+    (λ c. search needs)
     returns-2
-    same-length-3
+    (λ c. search needs)
     returns-3
-    same-length-4
+    (λ c. search needs)
     returns-4
     returns-5)

@@ -14,17 +14,11 @@ open-requires c κs =
     let q = c .before .before .before .before .before .before .before .before .pre .1 .element (c .before .before .before .before .if1 .taken) in
     (q .0, q .1, omega (arith, g .at-is, c .before .before .before .before .before .before .before .before .pre .2), omega (arith, g .depth-is, c .before .before .before .before .before .before .before .before .pre .6))
 
-same-length : tie.Need-same-length
-same-length c = search needs
-
 returns : tie.Need-returns
 returns c = done-open (c .before .before .before .before .before .before .before .before .before .before .before .args .doc .now) _ (c .before .before .before .before .before .before .before .if1 .taken) (c .before .before .before .begin .ensures) (c .before .before .«open» .ensures)
 
 close-requires : tie.Need-close-requires
 close-requires c κs = omega (arith, c .before .before .before .before .before .before .pre .2)
-
-same-length-2 : tie.Need-same-length-2
-same-length-2 c = search needs
 
 returns-2 : tie.Need-returns-2
 returns-2 c =
@@ -44,9 +38,6 @@ cell-requires c κs = omega (arith, c .before .before .before .before .before .p
 put-other-requires : tie.Need-put-other-requires
 put-other-requires c κs = (c .before .before .before .before .before .before .before .pre .0, rw (c .before .cell .ensures .0) (c .before .before .before .before .before .before .before .pre .1), rw (c .before .cell .ensures .0) (c .before .before .before .before .before .before .before .pre .2), c .before .before .before .if1 .left, c .before .before .if2 .left)
 
-same-length-3 : tie.Need-same-length-3
-same-length-3 c = search needs
-
 returns-3 : tie.Need-returns-3
 returns-3 c = done-inner _ _ _ _ (c .before .before .before .before .before .before .if1 .left) (rw (c .before .before .before .before .cell .ensures .0) at (c .before .before .put-other .ensures))
 
@@ -56,14 +47,14 @@ put-row-spec =
     (tie.spec
     begin-requires
     open-requires
-    same-length
+    (λ c. search needs)
     returns
     close-requires
-    same-length-2
+    (λ c. search needs)
     returns-2
     mul-cell
     add-cell
     cell-requires
     put-other-requires
-    same-length-3
+    (λ c. search needs)
     returns-3)

@@ -11,17 +11,8 @@ returns c = out-row _ _ _ _ _ _ (c .if1 .taken) refl
 returns-2 : tie.Need-returns-2
 returns-2 c = row-as (out-in _ (c .before .before .if1 .left) (value-skipped (c .before .before .before .before .before .before .args .doc .now) (c .before .before .before .before .before .before .args .marks .now) (c .before .before .before .before .before .before .args .token) (c .before .before .before .before .before .before .args .a) (c .before .before .before .before .before .before .args .b) (c .before .before .before .before .before .before .args .p .attribute) (c .if2 .taken))) refl refl (row-none _ _ _ _ _ refl)
 
-cursor-of-requires : tie.Need-cursor-of-requires
-cursor-of-requires c κs = search needs
-
 put-valued-requires : tie.Need-put-valued-requires
 put-valued-requires c κs = (c .before .before .before .before .before .before .before .before .pre .0, c .before .before .before .before .before .before .before .before .pre .1, c .before .before .before .before .before .before .before .before .pre .2, rw (c .cursor-of .ensures) (c .before .before .before .before .before .before .before .before .pre .3))
-
-moved-requires : tie.Need-moved-requires
-moved-requires c κs = search needs
-
-same-length : tie.Need-same-length
-same-length c = search needs
 
 returns-3 : tie.Need-returns-3
 returns-3 c = row-as (out-in _ (c .before .before .before .before .before .before .before .before .if1 .left) (value-counted (c .before .before .before .before .before .before .before .before .before .before .before .before .args .doc .now) (c .before .before .before .before .before .before .before .before .before .before .before .before .args .marks .now) (c .before .before .before .before .before .before .before .before .before .before .before .before .args .token) (c .before .before .before .before .before .before .before .before .before .before .before .before .args .a) (c .before .before .before .before .before .before .before .before .before .before .before .before .args .b) (c .before .before .before .before .before .before .before .before .before .before .before .before .args .p .attribute) (c .before .before .before .before .before .before .if2 .left))) refl refl (row-hashed _ _ (c .before .before .before .before .cursor-of .ensures) (c .before .before .before .put-valued .ensures) _ (c .moved .ensures))
@@ -32,8 +23,8 @@ put-value-spec =
     (tie.spec
     returns
     returns-2
-    cursor-of-requires
+    (λ c κs. search needs)
     put-valued-requires
-    moved-requires
-    same-length
+    (λ c κs. search needs)
+    (λ c. search needs)
     returns-3)

@@ -1,6 +1,6 @@
 -- `render::put_valued` meets its contract. Assumes nothing.
 use Rattle.render.proofs.Rows.{is-value, room-value, span, part-few, counted-qname, counted-zero, counted-value}
-use Rattle.render.proofs.Going.{hashed-as, hashed-none}
+use Rattle.symbols.proofs.Going.{hashed-as, hashed-none}
 use mathlib.Core.Path.{refl}
 use native.Mathlib.Omega.{arith}
 use borrow.Author.Needs.{needs}
@@ -16,14 +16,8 @@ mul-put-one c = (let q = c .before .before .before .before .pre .1 .qname (c .be
 element-copy-out-put-one : tie.Need-element-copy-out-put-one
 element-copy-out-put-one c = (let q = c .before .before .before .before .pre .1 .qname (c .before .if1 .taken) in omega (arith, q .0, q .1))
 
-add-put-one : tie.Need-add-put-one
-add-put-one c = search needs
-
 put-one-requires : tie.Need-put-one-requires
 put-one-requires c κs = omega (arith, c .before .before .before .before .before .pre .3)
-
-same-length : tie.Need-same-length
-same-length c = search needs
 
 returns : tie.Need-returns
 returns c = hashed-as (counted-qname (c .before .before .before .before .before .before .before .before .args .doc .now) (c .before .before .before .before .before .before .before .before .args .marks .now) (c .before .before .before .before .before .before .before .before .args .token) (c .before .before .before .before .before .before .before .before .args .a) (c .before .before .before .before .before .before .before .before .args .b) _ refl (c .before .before .before .before .before .if1 .taken)) (c .before .before .put-one .ensures)
@@ -37,12 +31,6 @@ add-end c = let v = (c .before .before .before .before .pre .1 .value (is-value 
 cast-put-payload : tie.Need-cast-put-payload
 cast-put-payload c = omega (arith, c .before .before .before .before .pre .2)
 
-sub-put-payload : tie.Need-sub-put-payload
-sub-put-payload c = search needs
-
-part-put-payload-start : tie.Need-part-put-payload-start
-part-put-payload-start c = search needs
-
 part-put-payload-end : tie.Need-part-put-payload-end
 part-put-payload-end c = let v = (c .before .before .before .before .pre .1 .value (is-value _ (c .if2 .left) (c .before .before .before .before .pre .2)) (c .before .if1 .left)) in omega (arith, v .0)
 
@@ -52,9 +40,6 @@ put-payload-requires c κs =
     let v = (c .before .before .before .before .before .before .pre .1 .value (is-value _ (c .before .before .if2 .left) (c .before .before .before .before .before .before .pre .2)) (c .before .before .before .if1 .left)) in
     let f = part-few (s .args .doc .now) (s .args .a) (s .args .b) in
     (s .pre .0, rw span (v .1), omega (arith, f, v .2), omega (arith, f, s .pre .3, room-value (s .args .token) (s .args .b) (c .before .before .if2 .left) (s .pre .2)))
-
-same-length-2 : tie.Need-same-length-2
-same-length-2 c = search needs
 
 returns-3 : tie.Need-returns-3
 returns-3 c = hashed-as (counted-value (c .before .before .before .before .before .before .before .before .before .args .doc .now) (c .before .before .before .before .before .before .before .before .before .args .marks .now) (c .before .before .before .before .before .before .before .before .before .args .token) (c .before .before .before .before .before .before .before .before .before .args .a) (c .before .before .before .before .before .before .before .before .before .args .b) (c .before .before .before .before .before .before .if1 .left) (c .before .before .before .before .before .if2 .left) (c .before .before .before .before .before .before .before .before .before .pre .2)) (c .before .before .put-payload .ensures)
@@ -66,16 +51,16 @@ put-valued-spec =
     sub-put-one
     mul-put-one
     element-copy-out-put-one
-    add-put-one
+    (λ c. search needs)
     put-one-requires
-    same-length
+    (λ c. search needs)
     returns
     returns-2
     add-end
     cast-put-payload
-    sub-put-payload
-    part-put-payload-start
+    (λ c. search needs)
+    (λ c. search needs)
     part-put-payload-end
     put-payload-requires
-    same-length-2
+    (λ c. search needs)
     returns-3)

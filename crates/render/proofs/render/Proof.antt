@@ -15,9 +15,6 @@ Inv-loop doc names qnames events classes rows qrows count syms₀ starts₀ hash
 abbrev μ-loop : tie.MeasureT-loop
 μ-loop doc names qnames events classes rows qrows count syms₀ starts₀ hashes₀ alphabet marks k₀ p₀ syms starts hashes k p = count - k
 
-alphabet-requires : tie.Need-alphabet-requires Inv-loop μ-loop
-alphabet-requires c κs = search needs
-
 fill-requires : tie.Need-fill-requires Inv-loop μ-loop
 fill-requires c κs = (c .before .before .before .before .before .before .before .pre .0 .qfew, length-replicate {A = ℕ} 1024 1, named-row (c .before .before .before .before .before .before .before .pre .0))
 
@@ -83,7 +80,7 @@ render-spec =
     (tie.spec
     Inv-loop
     μ-loop
-    alphabet-requires
+    (λ c κs. search needs)
     fill-requires
     loop-holds
     mul-cell

@@ -8,15 +8,6 @@ use Rattle.rewrite_extract.proofs.write_front.Tie as tie
 slice-aggregate-write-output : tie.Need-slice-aggregate-write-output
 slice-aggregate-write-output c = simp length-take (omega arith)
 
-write-output-requires : tie.Need-write-output-requires
-write-output-requires c κs = search needs
-
-returns : tie.Need-returns
-returns c = search needs
-
-returns-2 : tie.Need-returns-2
-returns-2 c = search needs
-
 pub write-front-spec : {M : Type 1} → statement M
 write-front-spec =
-    tie.close (tie.spec slice-aggregate-write-output write-output-requires returns returns-2)
+    tie.close (tie.spec slice-aggregate-write-output (λ c κs. search needs) (λ c. search needs) (λ c. search needs))

@@ -1,31 +1,13 @@
 -- `rewriter::rewrite` meets its contract. Assumes nothing.
-use Rattle.rewriter.proofs.Forms.{not-read, names-asks, qnames-asks, prepared, version-few, formed}
+use Rattle.rewriter_contract.proofs.Forms.{not-read, names-asks, qnames-asks, prepared, version-few, formed}
 use Prim.Native.Nat.{ℕ}
 use lib.ListN.{replicate, length-replicate}
 use borrow.Author.Needs.{needs}
 use Rattle.rewriter.proofs.rewrite.Statement.{statement}
 use Rattle.rewriter.proofs.rewrite.Tie as tie
 
-read-requires : tie.Need-read-requires
-read-requires c κs = search needs
-
-refused-requires : tie.Need-refused-requires
-refused-requires c κs = search needs
-
-same-length : tie.Need-same-length
-same-length c = search needs
-
-same-length-2 : tie.Need-same-length-2
-same-length-2 c = search needs
-
-same-length-3 : tie.Need-same-length-3
-same-length-3 c = search needs
-
 returns : tie.Need-returns
 returns c = let a = c .before .before .before .before .before .before .before .before .before .before .before .before .before .before .before .before .before .before .args in not-read (a .doc .now) (c .before .before .before .before .before .before .before .before .before .read .ensures) (a .out .now) (c .before .if1 .taken) (c .refused .ensures)
-
-table-requires : tie.Need-table-requires
-table-requires c κs = search needs
 
 name-classes-requires : tie.Need-name-classes-requires
 name-classes-requires c κs = let a = c .before .before .before .before .before .before .before .before .before .before .before .before .before .before .before .before .before .before .before .before .args in names-asks (a .doc .now) (c .before .before .before .before .before .before .before .before .before .before .before .read .ensures) (c .before .before .before .if1 .left) (replicate {A = ℕ} 1024 0) (length-replicate {A = ℕ} 1024 0)
@@ -45,9 +27,6 @@ same-length-5 c = c .before .before .before .before .before .before .before .bef
 same-length-6 : tie.Need-same-length-6
 same-length-6 c = c .before .before .before .before .before .before .before .before .before .before .before .before .before .before .before .before .before .before .before .before .before .before .before .before .before .before .before .read .kept .1 .1 .1 .0
 
-same-length-7 : tie.Need-same-length-7
-same-length-7 c = search needs
-
 returns-2 : tie.Need-returns-2
 returns-2 c = let a = c .before .before .before .before .before .before .before .before .before .before .before .before .before .before .before .before .before .before .before .before .before .before .before .before .before .before .before .before .before .before .before .before .before .before .before .before .args in formed (a .doc .now) (c .before .before .before .before .before .before .before .before .before .before .before .before .before .before .before .before .before .before .before .before .before .before .before .before .before .before .before .read .ensures) (c .before .before .before .before .before .before .before .before .before .before .before .before .before .before .before .before .before .before .before .if1 .left) _ _ (a .out .now) _ (c .before .before .write-form .ensures)
 
@@ -55,18 +34,18 @@ pub rewrite-spec : {M : Type 1} → statement M
 rewrite-spec =
     tie.close
     (tie.spec
-    read-requires
-    refused-requires
-    same-length
-    same-length-2
-    same-length-3
+    (λ c κs. search needs)
+    (λ c κs. search needs)
+    (λ c. search needs)
+    (λ c. search needs)
+    (λ c. search needs)
     returns
-    table-requires
+    (λ c κs. search needs)
     name-classes-requires
     qname-classes-requires
     write-form-requires
     same-length-4
     same-length-5
     same-length-6
-    same-length-7
+    (λ c. search needs)
     returns-2)

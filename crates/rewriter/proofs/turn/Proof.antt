@@ -1,12 +1,9 @@
 -- `rewriter::turn` meets its contract. Assumes nothing.
 use Rattle.rewriter.proofs.Walks.{leave-there, item-there, room-there, turned}
-use Rattle.rewriter.specs.Walk.{tables}
+use Rattle.form_items.specs.Walk.{tables}
 use borrow.Author.Needs.{needs}
 use Rattle.rewriter.proofs.turn.Statement.{statement}
 use Rattle.rewriter.proofs.turn.Tie as tie
-
-look-requires : tie.Need-look-requires
-look-requires c κs = search needs
 
 depth-after-requires : tie.Need-depth-after-requires
 depth-after-requires c κs = let a = c .before .before .before .before .before .before .args in let p = c .before .before .before .before .before .before .pre in (p .8, λ i. leave-there (tables (a .doc .now) (a .names .now) (a .qnames .now) (a .classes .now) (a .qclasses .now)) (a .rows) (a .qrows) (c .look .ensures) (a .w .depth) (p .5) i)
@@ -14,12 +11,9 @@ depth-after-requires c κs = let a = c .before .before .before .before .before .
 write-requires : tie.Need-write-requires
 write-requires c κs = let a = c .before .before .before .before .before .before .before .before .before .before .args in let p = c .before .before .before .before .before .before .before .before .before .before .pre in let l = c .before .before .before .before .look .ensures in (p .0, p .4, item-there (tables (a .doc .now) (a .names .now) (a .qnames .now) (a .classes .now) (a .qclasses .now)) (a .rows) (a .qrows) l (a .w .depth) (p .5), p .6, p .7, p .8, p .9, room-there (tables (a .doc .now) (a .names .now) (a .qnames .now) (a .classes .now) (a .qclasses .now)) (a .rows) (a .qrows) l (a .slots .now) (a .qslots .now) (a .out .now) (a .w .at) _ (p .10))
 
-same-length : tie.Need-same-length
-same-length c = search needs
-
 returns : tie.Need-returns
 returns c = let a = c .before .before .before .before .before .before .before .before .before .before .before .before .before .args in turned (tables (a .doc .now) (a .names .now) (a .qnames .now) (a .classes .now) (a .qclasses .now)) (a .rows) (a .qrows) (c .before .before .before .before .before .before .before .look .ensures) (c .before .before .write .ensures) (c .before .before .before .before .before .before .depth-after .ensures)
 
 pub turn-spec : {M : Type 1} → statement M
 turn-spec =
-    tie.close (tie.spec look-requires depth-after-requires write-requires same-length returns)
+    tie.close (tie.spec (λ c κs. search needs) depth-after-requires write-requires (λ c. search needs) returns)

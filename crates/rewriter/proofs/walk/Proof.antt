@@ -1,10 +1,10 @@
 -- `rewriter::walk` meets its contract. Assumes nothing.
 use Rattle.rewriter.proofs.Walks.{Inv, zeros, begins, asks, goes-on, whole}
-use Rattle.rewriter.specs.Walk.{tables}
+use Rattle.form_items.specs.Walk.{tables}
 use native.Mathlib.Omega.{arith}
 use Prim.Native.Nat.{_-_}
 use mathlib.Core.Path.{_∙_}
-use Rattle.output.proofs.Laws.{put-length}
+use Rattle.form_output.proofs.Laws.{put-length}
 use borrow.Author.Needs.{needs}
 use Rattle.rewriter.proofs.walk.Statement.{statement}
 use Rattle.rewriter.proofs.walk.Tie as tie
@@ -18,20 +18,11 @@ abbrev μ-loop : tie.MeasureT-loop
 cast-put-header : tie.Need-cast-put-header Inv-loop μ-loop
 cast-put-header c = let p = c .before .before .before .before .before .before .before .pre in let v = p .2 in omega arith
 
-put-header-requires : tie.Need-put-header-requires Inv-loop μ-loop
-put-header-requires c κs = search needs
-
 loop-holds : tie.Need-loop-holds Inv-loop μ-loop
 loop-holds c = let a = c .before .before .before .before .before .before .before .before .before .before .args in let p = c .before .before .before .before .before .before .before .before .before .before .pre in begins (tables (a .doc .now) (a .names .now) (a .qnames .now) (a .classes .now) (a .qclasses .now)) (a .events .now) (a .read .names) (a .read .qnames) (a .read .events) (p .1) (a .read .version) _ _ (c .before .before .put-header .ensures) (p .3) (zeros (tables (a .doc .now) (a .names .now) (a .qnames .now) (a .classes .now) (a .qclasses .now)) (a .events .now) (a .read .names) (a .read .qnames) (a .read .events)) (zeros (tables (a .doc .now) (a .names .now) (a .qnames .now) (a .classes .now) (a .qclasses .now)) (a .events .now) (a .read .names) (a .read .qnames) (a .read .events))
 
 turn-requires : tie.Need-turn-requires Inv-loop μ-loop
 turn-requires c κs = let a = c .before .before .before .before .before .before .before .before .before .before .before .before .before .before .before .before .args in let p = c .before .before .before .before .before .before .before .before .before .before .before .before .before .before .before .before .pre in let q = asks (tables (a .doc .now) (a .names .now) (a .qnames .now) (a .classes .now) (a .qclasses .now)) (a .events .now) (a .read .names) (a .read .qnames) (a .read .events) (p .1) (c .before .before .before .before .before .loop .inv) (c .before .before .before .if1 .taken) in (p .0, q .0, q .1, q .2, q .3, q .4, q .5, q .6, q .7, q .8, q .9)
-
-add-i : tie.Need-add-i Inv-loop μ-loop
-add-i c = search needs
-
-loop-less : tie.Need-loop-less Inv-loop μ-loop
-loop-less c = search needs
 
 loop-again : tie.Need-loop-again Inv-loop μ-loop
 loop-again c = let a = c .before .before .before .before .before .before .before .before .before .before .before .before .before .before .before .before .before .before .before .args in let p = c .before .before .before .before .before .before .before .before .before .before .before .before .before .before .before .before .before .before .before .pre in goes-on (tables (a .doc .now) (a .names .now) (a .qnames .now) (a .classes .now) (a .qclasses .now)) (a .events .now) (a .read .names) (a .read .qnames) (a .read .events) (p .1) (c .before .before .before .before .before .before .before .before .loop .inv) (c .before .before .before .before .before .before .if1 .taken) (c .before .before .turn .ensures)
@@ -49,11 +40,11 @@ walk-spec =
     Inv-loop
     μ-loop
     cast-put-header
-    put-header-requires
+    (λ c κs. search needs)
     loop-holds
     turn-requires
-    add-i
-    loop-less
+    (λ c. search needs)
+    (λ c. search needs)
     loop-again
     same-length
     returns)

@@ -1,6 +1,6 @@
 -- `rewriter::write_form` meets its contract. Assumes nothing.
-use Rattle.rewriter.proofs.Forms.{form-long, room-small, form-written}
-use Rattle.rewriter.specs.Walk.{tables, eventsIn}
+use Rattle.rewriter_contract.proofs.Forms.{form-long, room-small, form-written}
+use Rattle.form_items.specs.Walk.{tables, eventsIn}
 use native.Mathlib.Omega.{arith}
 use Prim.Native.Nat.{ℕ}
 use lib.ListN.{length-replicate}
@@ -10,29 +10,17 @@ use borrow.Author.Needs.{needs}
 use Rattle.rewriter.proofs.write_form.Statement.{statement}
 use Rattle.rewriter.proofs.write_form.Tie as tie
 
-slice-aggregate-walk : tie.Need-slice-aggregate-walk
-slice-aggregate-walk c = search needs
-
 walk-requires : tie.Need-walk-requires
 walk-requires c κs = let p = c .before .before .before .before .before .before .pre in (p .0, p .1, p .2, inl (omega (arith, length-replicate {A = ℕ} 1 0)))
 
-refused-requires : tie.Need-refused-requires
-refused-requires c κs = search needs
-
 returns : tie.Need-returns
 returns c = let a = c .before .before .before .before .before .before .before .before .before .before .args in form-long (canonical (a .read .version) (eventsIn (tables (a .doc .now) (a .names .now) (a .qnames .now) (a .classes .now) (a .qclasses .now)) (a .events .now) (a .read .names) (a .read .qnames) (a .read .events))) (a .read .place) (a .out .now) (c .before .before .before .walk .ensures .past) (c .before .if1 .taken) (c .refused .ensures)
-
-refused-requires-2 : tie.Need-refused-requires-2
-refused-requires-2 c κs = search needs
 
 returns-2 : tie.Need-returns-2
 returns-2 c = let a = c .before .before .before .before .before .before .before .before .before .before .before .args in room-small (canonical (a .read .version) (eventsIn (tables (a .doc .now) (a .names .now) (a .qnames .now) (a .classes .now) (a .qclasses .now)) (a .events .now) (a .read .names) (a .read .qnames) (a .read .events))) (a .read .place) (a .out .now) (c .before .before .before .before .walk .ensures .past) (c .before .before .if1 .left) (c .before .if2 .taken) (c .refused2 .ensures)
 
 walk-requires-2 : tie.Need-walk-requires-2
 walk-requires-2 c κs = let p = c .before .before .before .before .before .before .before .before .before .before .before .pre in (p .0, p .1, p .2, inr (let e = c .before .before .before .before .walk .ensures .past in let l = c .before .if2 .left in omega arith))
-
-same-length : tie.Need-same-length
-same-length c = search needs
 
 returns-3 : tie.Need-returns-3
 returns-3 c = let a = c .before .before .before .before .before .before .before .before .before .before .before .before .before .before .args in form-written (canonical (a .read .version) (eventsIn (tables (a .doc .now) (a .names .now) (a .qnames .now) (a .classes .now) (a .qclasses .now)) (a .events .now) (a .read .names) (a .read .qnames) (a .read .events))) (a .read .place) (a .out .now) (c .before .before .before .before .before .before .before .walk .ensures .past) (c .before .before .before .before .before .if1 .left) (c .before .before .before .before .if2 .left) (c .before .before .walk2 .ensures)
@@ -41,12 +29,12 @@ pub write-form-spec : {M : Type 1} → statement M
 write-form-spec =
     tie.close
     (tie.spec
-    slice-aggregate-walk
+    (λ c. search needs)
     walk-requires
-    refused-requires
+    (λ c κs. search needs)
     returns
-    refused-requires-2
+    (λ c κs. search needs)
     returns-2
     walk-requires-2
-    same-length
+    (λ c. search needs)
     returns-3)

@@ -6,144 +6,6 @@ use Rattle.scan.proofs.Valued.{valued}
 use Rattle.scan.proofs.class_step.Statement.{statement}
 use Rattle.scan.proofs.class_step.Tie as tie
 
-enum-told : tie.Need-enum-told
-enum-told c = search needs
-
-refuse-token-requires : tie.Need-refuse-token-requires
-refuse-token-requires c κs = search needs
-
-value-step-requires : tie.Need-value-step-requires
-value-step-requires c κs = search needs
-
-enum-told-2 : tie.Need-enum-told-2
-enum-told-2 c = search needs
-
-text-step-requires : tie.Need-text-step-requires
-text-step-requires c κs = search needs
-
-enum-told-3 : tie.Need-enum-told-3
-enum-told-3 c = search needs
-
-refuse-token-requires-2 : tie.Need-refuse-token-requires-2
-refuse-token-requires-2 c κs = search needs
-
-enum-told-4 : tie.Need-enum-told-4
-enum-told-4 c = search needs
-
-text-step-requires-2 : tie.Need-text-step-requires-2
-text-step-requires-2 c κs = search needs
-
-enum-told-5 : tie.Need-enum-told-5
-enum-told-5 c = search needs
-
-text-step-requires-3 : tie.Need-text-step-requires-3
-text-step-requires-3 c κs = search needs
-
-enum-told-6 : tie.Need-enum-told-6
-enum-told-6 c = search needs
-
-text-step-requires-4 : tie.Need-text-step-requires-4
-text-step-requires-4 c κs = search needs
-
-enum-told-7 : tie.Need-enum-told-7
-enum-told-7 c = search needs
-
-text-step-requires-5 : tie.Need-text-step-requires-5
-text-step-requires-5 c κs = search needs
-
-enum-told-8 : tie.Need-enum-told-8
-enum-told-8 c = search needs
-
-element-step-requires : tie.Need-element-step-requires
-element-step-requires c κs = search needs
-
-enum-told-9 : tie.Need-enum-told-9
-enum-told-9 c = search needs
-
-add-t14 : tie.Need-add-t14
-add-t14 c = search needs
-
-due-requires : tie.Need-due-requires
-due-requires c κs = search needs
-
-enum-told-10 : tie.Need-enum-told-10
-enum-told-10 c = search needs
-
-attribute-step-requires : tie.Need-attribute-step-requires
-attribute-step-requires c κs = search needs
-
-enum-told-11 : tie.Need-enum-told-11
-enum-told-11 c = search needs
-
-bare-step-requires : tie.Need-bare-step-requires
-bare-step-requires c κs = search needs
-
-enum-told-12 : tie.Need-enum-told-12
-enum-told-12 c = search needs
-
-pi-step-requires : tie.Need-pi-step-requires
-pi-step-requires c κs = search needs
-
-enum-told-13 : tie.Need-enum-told-13
-enum-told-13 c = search needs
-
-after-misc-requires : tie.Need-after-misc-requires
-after-misc-requires c κs = search needs
-
-text-step-requires-6 : tie.Need-text-step-requires-6
-text-step-requires-6 c κs = search needs
-
-enum-told-14 : tie.Need-enum-told-14
-enum-told-14 c = search needs
-
-text-step-requires-7 : tie.Need-text-step-requires-7
-text-step-requires-7 c κs = search needs
-
-enum-told-15 : tie.Need-enum-told-15
-enum-told-15 c = search needs
-
-bare-step-requires-2 : tie.Need-bare-step-requires-2
-bare-step-requires-2 c κs = search needs
-
-enum-told-16 : tie.Need-enum-told-16
-enum-told-16 c = search needs
-
-name-step-requires : tie.Need-name-step-requires
-name-step-requires c κs = search needs
-
-enum-told-17 : tie.Need-enum-told-17
-enum-told-17 c = search needs
-
-qname-step-requires : tie.Need-qname-step-requires
-qname-step-requires c κs = search needs
-
-enum-told-18 : tie.Need-enum-told-18
-enum-told-18 c = search needs
-
-nest-step-requires : tie.Need-nest-step-requires
-nest-step-requires c κs = search needs
-
-enum-told-19 : tie.Need-enum-told-19
-enum-told-19 c = search needs
-
-add-t18 : tie.Need-add-t18
-add-t18 c = search needs
-
-due-requires-2 : tie.Need-due-requires-2
-due-requires-2 c κs = search needs
-
-enum-told-20 : tie.Need-enum-told-20
-enum-told-20 c = search needs
-
-extension-step-requires : tie.Need-extension-step-requires
-extension-step-requires c κs = search needs
-
-enum-told-21 : tie.Need-enum-told-21
-enum-told-21 c = search needs
-
-add-t20 : tie.Need-add-t20
-add-t20 c = search needs
-
 returns : tie.Need-returns
 unfolding classStep
 returns c = rw (c .before .enum-told .given .1) (c .refuse-token .ensures)
@@ -235,52 +97,52 @@ pub class-step-spec : {M : Type 1} → statement M
 class-step-spec =
     tie.close
     (tie.spec
-    enum-told
-    refuse-token-requires
-    value-step-requires
-    enum-told-2
-    text-step-requires
-    enum-told-3
-    refuse-token-requires-2
-    enum-told-4
-    text-step-requires-2
-    enum-told-5
-    text-step-requires-3
-    enum-told-6
-    text-step-requires-4
-    enum-told-7
-    text-step-requires-5
-    enum-told-8
-    element-step-requires
-    enum-told-9
-    add-t14
-    due-requires
-    enum-told-10
-    attribute-step-requires
-    enum-told-11
-    bare-step-requires
-    enum-told-12
-    pi-step-requires
-    enum-told-13
-    after-misc-requires
-    text-step-requires-6
-    enum-told-14
-    text-step-requires-7
-    enum-told-15
-    bare-step-requires-2
-    enum-told-16
-    name-step-requires
-    enum-told-17
-    qname-step-requires
-    enum-told-18
-    nest-step-requires
-    enum-told-19
-    add-t18
-    due-requires-2
-    enum-told-20
-    extension-step-requires
-    enum-told-21
-    add-t20
+    (λ c. search needs)
+    (λ c κs. search needs)
+    (λ c κs. search needs)
+    (λ c. search needs)
+    (λ c κs. search needs)
+    (λ c. search needs)
+    (λ c κs. search needs)
+    (λ c. search needs)
+    (λ c κs. search needs)
+    (λ c. search needs)
+    (λ c κs. search needs)
+    (λ c. search needs)
+    (λ c κs. search needs)
+    (λ c. search needs)
+    (λ c κs. search needs)
+    (λ c. search needs)
+    (λ c κs. search needs)
+    (λ c. search needs)
+    (λ c. search needs)
+    (λ c κs. search needs)
+    (λ c. search needs)
+    (λ c κs. search needs)
+    (λ c. search needs)
+    (λ c κs. search needs)
+    (λ c. search needs)
+    (λ c κs. search needs)
+    (λ c. search needs)
+    (λ c κs. search needs)
+    (λ c κs. search needs)
+    (λ c. search needs)
+    (λ c κs. search needs)
+    (λ c. search needs)
+    (λ c κs. search needs)
+    (λ c. search needs)
+    (λ c κs. search needs)
+    (λ c. search needs)
+    (λ c κs. search needs)
+    (λ c. search needs)
+    (λ c κs. search needs)
+    (λ c. search needs)
+    (λ c. search needs)
+    (λ c κs. search needs)
+    (λ c. search needs)
+    (λ c κs. search needs)
+    (λ c. search needs)
+    (λ c. search needs)
     returns
     returns-2
     returns-3

@@ -5,26 +5,11 @@ use Rattle.scan.proofs.Steps.{declared-encoding, declared-wrong, declar
 use Rattle.scan.proofs.declared_step.Statement.{statement}
 use Rattle.scan.proofs.declared_step.Tie as tie
 
-number-of-requires : tie.Need-number-of-requires
-number-of-requires c κs = search needs
-
-both-requires : tie.Need-both-requires
-both-requires c κs = search needs
-
-text-step-requires : tie.Need-text-step-requires
-text-step-requires c κs = search needs
-
 returns : tie.Need-returns
 returns c = c .text-step .ensures ∙ declared-encoding (c .before .before .before .before .before .args .doc .now) (c .before .before .before .before .before .args .v) (c .before .before .before .before .before .args .room) (c .before .before .before .before .before .args .byte) (sym (c .before .before .both .ensures ∙ rw (c .before .before .before .number-of .ensures)) ∙ c .before .if1 .taken)
 
 returns-2 : tie.Need-returns-2
 returns-2 c = declared-wrong (c .before .before .before .before .before .args .doc .now) (c .before .before .before .before .before .args .v) (c .before .before .before .before .before .args .room) (c .before .before .before .before .before .args .byte) (sym (c .before .before .both .ensures ∙ rw (c .before .before .before .number-of .ensures)) ∙ c .before .if1 .left) (c .if2 .taken)
-
-add-t12 : tie.Need-add-t12
-add-t12 c = search needs
-
-due-requires : tie.Need-due-requires
-due-requires c κs = search needs
 
 returns-3 : tie.Need-returns-3
 returns-3 c = c .due .ensures ∙ declared-standalone (c .before .before .before .before .before .before .before .args .doc .now) (c .before .before .before .before .before .before .before .args .v) (c .before .before .before .before .before .before .before .args .room) (c .before .before .before .before .before .before .before .args .byte) (sym (c .before .before .before .before .both .ensures ∙ rw (c .before .before .before .before .before .number-of .ensures)) ∙ c .before .before .before .if1 .left) (c .before .before .if2 .left)
@@ -33,11 +18,11 @@ pub declared-step-spec : {M : Type 1} → statement M
 declared-step-spec =
     tie.close
     (tie.spec
-    number-of-requires
-    both-requires
-    text-step-requires
+    (λ c κs. search needs)
+    (λ c κs. search needs)
+    (λ c κs. search needs)
     returns
     returns-2
-    add-t12
-    due-requires
+    (λ c. search needs)
+    (λ c κs. search needs)
     returns-3)

@@ -5,15 +5,6 @@ use Rattle.scan.proofs.Steps.{end-accepted, end-missing}
 use Rattle.scan.proofs.end_step.Statement.{statement}
 use Rattle.scan.proofs.end_step.Tie as tie
 
-both-requires : tie.Need-both-requires
-both-requires c κs = search needs
-
-number-of-requires : tie.Need-number-of-requires
-number-of-requires c κs = search needs
-
-both-requires-2 : tie.Need-both-requires-2
-both-requires-2 c κs = search needs
-
 returns : tie.Need-returns
 returns c = end-accepted _ (c .before .before .before .before .before .before .args .v) (c .before .before .before .both .ensures) (c .before .both2 .ensures ∙ rw (c .before .before .number-of .ensures)) (c .if1 .taken)
 
@@ -22,4 +13,4 @@ returns-2 c = end-missing _ (c .before .before .before .before .before .before .
 
 pub end-step-spec : {M : Type 1} → statement M
 end-step-spec =
-    tie.close (tie.spec both-requires number-of-requires both-requires-2 returns returns-2)
+    tie.close (tie.spec (λ c κs. search needs) (λ c κs. search needs) (λ c κs. search needs) returns returns-2)

@@ -5,18 +5,6 @@ use Rattle.scan.proofs.Steps.{token-on, token-refused}
 use Rattle.scan.proofs.token_step.Statement.{statement}
 use Rattle.scan.proofs.token_step.Tie as tie
 
-class-at-requires : tie.Need-class-at-requires
-class-at-requires c κs = search needs
-
-may-stand-requires : tie.Need-may-stand-requires
-may-stand-requires c κs = search needs
-
-class-step-requires : tie.Need-class-step-requires
-class-step-requires c κs = search needs
-
-refuse-token-requires : tie.Need-refuse-token-requires
-refuse-token-requires c κs = search needs
-
 returns : tie.Need-returns
 returns c = c .class-step .ensures ∙ rw (c .before .before .before .class-at .ensures) (token-on (c .before .before .before .before .before .args .doc .now) (c .before .before .before .before .before .args .v) (c .before .before .before .before .before .args .room) (c .before .before .before .before .before .args .token) (c .before .before .may-stand .ensures ∙ rw (c .before .before .before .class-at .ensures)) (c .before .if1 .taken))
 
@@ -27,9 +15,9 @@ pub token-step-spec : {M : Type 1} → statement M
 token-step-spec =
     tie.close
     (tie.spec
-    class-at-requires
-    may-stand-requires
-    class-step-requires
-    refuse-token-requires
+    (λ c κs. search needs)
+    (λ c κs. search needs)
+    (λ c κs. search needs)
+    (λ c κs. search needs)
     returns
     returns-2)

@@ -4,38 +4,14 @@ use Rattle.text.proofs.Laid.{lays-length, number-told, payload-told, sh
 use Rattle.text.proofs.show.Statement.{statement}
 use Rattle.text.proofs.show.Tie as tie
 
-table-requires : tie.Need-table-requires
-table-requires c κs = search needs
-
 plan-at-requires : tie.Need-plan-at-requires
 plan-at-requires c κs = c .before .table .ensures
-
-enum-told : tie.Need-enum-told
-enum-told c = search needs
-
-enum-told-2 : tie.Need-enum-told-2
-enum-told-2 c = search needs
-
-enum-known-minus : tie.Need-enum-known-minus
-enum-known-minus c = search needs
 
 show-number-requires : tie.Need-show-number-requires
 show-number-requires c κs = number-told _ _ (c .before .before .before .before .plan-at .ensures) (c .before .before .minus .given .1)
 
-enum-known-yes : tie.Need-enum-known-yes
-enum-known-yes c = search needs
-
-show-truth-requires : tie.Need-show-truth-requires
-show-truth-requires c κs = search needs
-
-enum-told-3 : tie.Need-enum-told-3
-enum-told-3 c = search needs
-
 show-hex-requires : tie.Need-show-hex-requires
 show-hex-requires c κs = payload-told _ _ (c .before .before .before .plan-at .ensures) (c .before .enum-told3 .given .1)
-
-enum-told-4 : tie.Need-enum-told-4
-enum-told-4 c = search needs
 
 show-base64-requires : tie.Need-show-base64-requires
 show-base64-requires c κs = payload-told _ _ (c .before .before .before .plan-at .ensures) (c .before .enum-told4 .given .1)
@@ -82,17 +58,17 @@ pub show-spec : {M : Type 1} → statement M
 show-spec =
     tie.close
     (tie.spec
-    table-requires
+    (λ c κs. search needs)
     plan-at-requires
-    enum-told
-    enum-told-2
-    enum-known-minus
+    (λ c. search needs)
+    (λ c. search needs)
+    (λ c. search needs)
     show-number-requires
-    enum-known-yes
-    show-truth-requires
-    enum-told-3
+    (λ c. search needs)
+    (λ c κs. search needs)
+    (λ c. search needs)
     show-hex-requires
-    enum-told-4
+    (λ c. search needs)
     show-base64-requires
     returns
     returns-2

@@ -4,20 +4,8 @@ use Rattle.text.proofs.Laid.{lays-short, lays-made, need-base64}
 use Rattle.text.proofs.show_base64.Statement.{statement}
 use Rattle.text.proofs.show_base64.Tie as tie
 
-add-size : tie.Need-add-size
-add-size c = search needs
-
-mul-size : tie.Need-mul-size
-mul-size c = search needs
-
 returns : tie.Need-returns
 returns c = lays-short _ _ (need-base64 (c .before .before .before .args .p .now)) (c .if1 .taken)
-
-base64-into-requires : tie.Need-base64-into-requires
-base64-into-requires c κs = search needs
-
-same-length : tie.Need-same-length
-same-length c = search needs
 
 returns-2 : tie.Need-returns-2
 returns-2 c =
@@ -26,4 +14,4 @@ returns-2 c =
 
 pub show-base64-spec : {M : Type 1} → statement M
 show-base64-spec =
-    tie.close (tie.spec add-size mul-size returns base64-into-requires same-length returns-2)
+    tie.close (tie.spec (λ c. search needs) (λ c. search needs) returns (λ c κs. search needs) (λ c. search needs) returns-2)

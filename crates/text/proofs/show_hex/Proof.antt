@@ -4,17 +4,8 @@ use Rattle.text.proofs.Laid.{lays-short, lays-made, need-hex}
 use Rattle.text.proofs.show_hex.Statement.{statement}
 use Rattle.text.proofs.show_hex.Tie as tie
 
-mul-need : tie.Need-mul-need
-mul-need c = search needs
-
 returns : tie.Need-returns
 returns c = lays-short _ _ (need-hex (c .before .before .before .args .p .now)) (c .if1 .taken)
-
-hex-into-requires : tie.Need-hex-into-requires
-hex-into-requires c κs = search needs
-
-same-length : tie.Need-same-length
-same-length c = search needs
 
 returns-2 : tie.Need-returns-2
 returns-2 c =
@@ -22,4 +13,4 @@ returns-2 c =
     (c .before .before .hex-into .ensures)
 
 pub show-hex-spec : {M : Type 1} → statement M
-show-hex-spec = tie.close (tie.spec mul-need returns hex-into-requires same-length returns-2)
+show-hex-spec = tie.close (tie.spec (λ c. search needs) returns (λ c κs. search needs) (λ c. search needs) returns-2)

@@ -4,23 +4,8 @@ use Rattle.text.proofs.Laid.{lays-short, lays-made, need-small}
 use Rattle.text.proofs.show_small.Statement.{statement}
 use Rattle.text.proofs.show_small.Tie as tie
 
-mul-need : tie.Need-mul-need
-mul-need c = search needs
-
-sub-need : tie.Need-sub-need
-sub-need c = search needs
-
 returns : tie.Need-returns
 returns c = record { each = λ text e. lays-short text _ (need-small e) (c .if1 .taken) }
-
-mul-copy-from : tie.Need-mul-copy-from
-mul-copy-from c = search needs
-
-copy-from-requires : tie.Need-copy-from-requires
-copy-from-requires c κs = search needs
-
-same-length : tie.Need-same-length
-same-length c = search needs
 
 returns-2 : tie.Need-returns-2
 returns-2 c =
@@ -29,4 +14,4 @@ returns-2 c =
     }
 
 pub show-small-spec : {M : Type 1} → statement M
-show-small-spec = tie.close (tie.spec mul-need sub-need returns mul-copy-from copy-from-requires same-length returns-2)
+show-small-spec = tie.close (tie.spec (λ c. search needs) (λ c. search needs) returns (λ c. search needs) (λ c κs. search needs) (λ c. search needs) returns-2)

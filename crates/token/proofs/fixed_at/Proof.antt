@@ -5,17 +5,8 @@ use Rattle.token.proofs.Fixed.{fixed-here}
 use Rattle.token.proofs.fixed_at.Statement.{statement}
 use Rattle.token.proofs.fixed_at.Tie as tie
 
-mul-fixed-from : tie.Need-mul-fixed-from
-mul-fixed-from c = search needs
-
-element-copy-out-fixed-from : tie.Need-element-copy-out-fixed-from
-element-copy-out-fixed-from c = search needs
-
-fixed-from-requires : tie.Need-fixed-from-requires
-fixed-from-requires c κs = search needs
-
 returns : tie.Need-returns
 returns c = fixed-here (c .before .before .pre) (omega arith) (c .fixed-from .ensures)
 
 pub fixed-at-spec : {M : Type 1} → statement M
-fixed-at-spec = tie.close (tie.spec mul-fixed-from element-copy-out-fixed-from fixed-from-requires returns)
+fixed-at-spec = tie.close (tie.spec (λ c. search needs) (λ c. search needs) (λ c κs. search needs) returns)

@@ -28,12 +28,6 @@ is-twin-requires c κs =
 returns : tie.Need-returns Inv-loop μ-loop
 returns c = walk-hit _ _ _ _ _ (c .before .before .before .loop .inv) (c .before .is-twin .ensures) (c .if1 .taken)
 
-mul-j : tie.Need-mul-j Inv-loop μ-loop
-mul-j c = search needs
-
-element-copy-out-j : tie.Need-element-copy-out-j Inv-loop μ-loop
-element-copy-out-j c = search needs
-
 cast-j : tie.Need-cast-j Inv-loop μ-loop
 cast-j c =
     let s = c .before .before .before .before .before .before .before in
@@ -68,8 +62,8 @@ find-spec =
     loop-holds
     is-twin-requires
     returns
-    mul-j
-    element-copy-out-j
+    (λ c. search needs)
+    (λ c. search needs)
     cast-j
     loop-less
     loop-again

@@ -6,28 +6,10 @@ use Rattle.twins.proofs.Equal.{not-same}
 use Rattle.twins.proofs.is_twin.Statement.{statement}
 use Rattle.twins.proofs.is_twin.Tie as tie
 
-add-if1 : tie.Need-add-if1
-add-if1 c = search needs
-
-mul-if1 : tie.Need-mul-if1
-mul-if1 c = search needs
-
-element-copy-out-if1 : tie.Need-element-copy-out-if1
-element-copy-out-if1 c = search needs
-
 returns : tie.Need-returns
 returns c =
     let s = c .before .before .before .before in
     not-same _ _ (λ e. c .if1 .taken (s .pre .4 _ (s .pre .3) ∙ sym (ap hashOf e) ∙ sym (s .pre .5)))
-
-part-requires : tie.Need-part-requires
-part-requires c κs = search needs
-
-part-requires-2 : tie.Need-part-requires-2
-part-requires-2 c κs = search needs
-
-same-syms-requires : tie.Need-same-syms-requires
-same-syms-requires c κs = search needs
 
 returns-2 : tie.Need-returns-2
 returns-2 c = rw (← c .before .before .part .ensures, ← c .before .part2 .ensures) (c .same-syms .ensures)
@@ -36,11 +18,11 @@ pub is-twin-spec : {M : Type 1} → statement M
 is-twin-spec =
     tie.close
     (tie.spec
-    add-if1
-    mul-if1
-    element-copy-out-if1
+    (λ c. search needs)
+    (λ c. search needs)
+    (λ c. search needs)
     returns
-    part-requires
-    part-requires-2
-    same-syms-requires
+    (λ c κs. search needs)
+    (λ c κs. search needs)
+    (λ c κs. search needs)
     returns-2)

@@ -5,21 +5,6 @@ use Rattle.twins.proofs.Ends.{part-within}
 use Rattle.twins.proofs.part.Statement.{statement}
 use Rattle.twins.proofs.part.Tie as tie
 
-mul-a : tie.Need-mul-a
-mul-a c = search needs
-
-shared-slice-read-a : tie.Need-shared-slice-read-a
-shared-slice-read-a c = search needs
-
-add-e : tie.Need-add-e
-add-e c = search needs
-
-mul-e : tie.Need-mul-e
-mul-e c = search needs
-
-shared-slice-read-e : tie.Need-shared-slice-read-e
-shared-slice-read-e c = search needs
-
 mul-result : tie.Need-mul-result
 mul-result c = let s = c .before .before in omega (arith, part-within (s .pre .0) (s .args .k) (s .pre .1))
 
@@ -32,20 +17,17 @@ part-result-start c = let s = c .before .before in omega (arith, part-within (s 
 part-result-end : tie.Need-part-result-end
 part-result-end c = let s = c .before .before in omega (arith, part-within (s .pre .0) (s .args .k) (s .pre .1))
 
-returns : tie.Need-returns
-returns c = search needs
-
 pub part-spec : {M : Type 1} → statement M
 part-spec =
     tie.close
     (tie.spec
-    mul-a
-    shared-slice-read-a
-    add-e
-    mul-e
-    shared-slice-read-e
+    (λ c. search needs)
+    (λ c. search needs)
+    (λ c. search needs)
+    (λ c. search needs)
+    (λ c. search needs)
     mul-result
     sub-result
     part-result-start
     part-result-end
-    returns)
+    (λ c. search needs))

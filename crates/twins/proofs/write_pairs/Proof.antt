@@ -24,12 +24,6 @@ write-run-requires c κs =
     let l = c .before .loop-test .taken in
     (s .pre .0, l, nexts-of _ _ _ _ (s .pre .2), listed-fits (c .before .before .loop .inv .1) l (room-after _ _ _ (s .args .pairs .now) (s .pre .3)))
 
-add-i : tie.Need-add-i Inv-loop μ-loop
-add-i c = search needs
-
-loop-less : tie.Need-loop-less Inv-loop μ-loop
-loop-less c = search needs
-
 loop-again : tie.Need-loop-again Inv-loop μ-loop
 loop-again c =
     let l = c .before .before .before .before .loop-test .taken in
@@ -52,8 +46,8 @@ write-pairs-spec =
     μ-loop
     loop-holds
     write-run-requires
-    add-i
-    loop-less
+    (λ c. search needs)
+    (λ c. search needs)
     loop-again
     same-length
     returns)

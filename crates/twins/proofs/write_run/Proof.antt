@@ -15,27 +15,15 @@ Inv-loop syms starts n next i out₀ at to₀ j₀ out to j = Written (partAt sy
 abbrev μ-loop : tie.MeasureT-loop
 μ-loop syms starts n next i out₀ at to₀ j₀ out to j = n - j
 
-mul-j : tie.Need-mul-j Inv-loop μ-loop
-mul-j c = search needs
-
-element-copy-out-j : tie.Need-element-copy-out-j Inv-loop μ-loop
-element-copy-out-j c = search needs
-
 loop-holds : tie.Need-loop-holds Inv-loop μ-loop
 loop-holds c =
     let s = c .before in run-first _ _ _ _ _ _ (s .pre .2 (s .args .i) (omega arith) (s .pre .1))
-
-cast-pairs : tie.Need-cast-pairs Inv-loop μ-loop
-cast-pairs c = search needs
 
 mul-pairs : tie.Need-mul-pairs Inv-loop μ-loop
 mul-pairs c = omega (arith, run-fits (c .before .loop .inv) (c .loop-test .taken) (c .before .before .before .pre .3))
 
 slice-write-pairs : tie.Need-slice-write-pairs Inv-loop μ-loop
 slice-write-pairs c = omega (arith, run-fits (c .before .loop .inv) (c .loop-test .taken) (c .before .before .before .pre .3))
-
-cast-pairs-2 : tie.Need-cast-pairs-2 Inv-loop μ-loop
-cast-pairs-2 c = search needs
 
 add-pairs : tie.Need-add-pairs Inv-loop μ-loop
 add-pairs c = omega (arith, run-fits (c .before .loop .inv) (c .loop-test .taken) (c .before .before .before .pre .3))
@@ -48,12 +36,6 @@ slice-write-pairs-2 c = simp length-set (omega (arith, run-fits (c .before .loop
 
 add-to : tie.Need-add-to Inv-loop μ-loop
 add-to c = omega (arith, run-fits (c .before .loop .inv) (c .loop-test .taken) (c .before .before .before .pre .3))
-
-mul-j-2 : tie.Need-mul-j-2 Inv-loop μ-loop
-mul-j-2 c = search needs
-
-element-copy-out-j-2 : tie.Need-element-copy-out-j-2 Inv-loop μ-loop
-element-copy-out-j-2 c = search needs
 
 loop-less : tie.Need-loop-less Inv-loop μ-loop
 loop-less c =
@@ -78,19 +60,19 @@ write-run-spec =
     (tie.spec
     Inv-loop
     μ-loop
-    mul-j
-    element-copy-out-j
+    (λ c. search needs)
+    (λ c. search needs)
     loop-holds
-    cast-pairs
+    (λ c. search needs)
     mul-pairs
     slice-write-pairs
-    cast-pairs-2
+    (λ c. search needs)
     add-pairs
     mul-pairs-2
     slice-write-pairs-2
     add-to
-    mul-j-2
-    element-copy-out-j-2
+    (λ c. search needs)
+    (λ c. search needs)
     loop-less
     loop-again
     same-length

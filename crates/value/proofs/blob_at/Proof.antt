@@ -8,15 +8,6 @@ use native.Mathlib.Omega.{arith}
 use Rattle.value.proofs.blob_at.Statement.{statement}
 use Rattle.value.proofs.blob_at.Tie as tie
 
-read-requires : tie.Need-read-requires
-read-requires c κs = search needs
-
-enum-known-number : tie.Need-enum-known-number
-enum-known-number c = search needs
-
-enum-known-value : tie.Need-enum-known-value
-enum-known-value c = search needs
-
 needed-at-requires : tie.Need-needed-at-requires
 needed-at-requires c κs = let w = is-within (length (c .before .before .before .before .before .args .doc .now)) (c .before .before .before .before .before .args .at) (c .before .value .given .1) (c .before .before .before .read .ensures .1) in omega arith
 
@@ -30,9 +21,9 @@ pub blob-at-spec : {M : Type 1} → statement M
 blob-at-spec =
     tie.close
     (tie.spec
-    read-requires
-    enum-known-number
-    enum-known-value
+    (λ c κs. search needs)
+    (λ c. search needs)
+    (λ c. search needs)
     needed-at-requires
     returns
     returns-2)

@@ -9,21 +9,6 @@ use native.Mathlib.Omega.{arith}
 use Rattle.value.proofs.decimal_at.Statement.{statement}
 use Rattle.value.proofs.decimal_at.Tie as tie
 
-add-read : tie.Need-add-read
-add-read c = search needs
-
-read-requires : tie.Need-read-requires
-read-requires c κs = search needs
-
-enum-known-number : tie.Need-enum-known-number
-enum-known-number c = search needs
-
-enum-known-value : tie.Need-enum-known-value
-enum-known-value c = search needs
-
-decimal-size-requires : tie.Need-decimal-size-requires
-decimal-size-requires c κs = search needs
-
 needed-at-requires : tie.Need-needed-at-requires
 needed-at-requires c κs = let w = is-within (length (c .before .before .before .before .before .before .before .args .doc .now)) (c .before .before .before .before .before .before .before .args .at + 1) (c .before .before .before .value .given .1) (c .before .before .before .before .before .read .ensures .1) in omega arith
 
@@ -45,11 +30,11 @@ pub decimal-at-spec : {M : Type 1} → statement M
 decimal-at-spec =
     tie.close
     (tie.spec
-    add-read
-    read-requires
-    enum-known-number
-    enum-known-value
-    decimal-size-requires
+    (λ c. search needs)
+    (λ c κs. search needs)
+    (λ c. search needs)
+    (λ c. search needs)
+    (λ c κs. search needs)
     needed-at-requires
     returns
     returns-2

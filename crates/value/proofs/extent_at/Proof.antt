@@ -1,106 +1,15 @@
 -- `value::extent_at` meets its contract: a function for each shape. Assumes nothing.
 use borrow.Author.Needs.{needs}
-use Rattle.value.specs.Fields.{extentAt}
+use Rattle.value.specs.Fields.{extentAt, textPayload}
 use mathlib.Core.Path.{_∙_, ap}
 use Prim.Native.Nat.{_+_}
 use lib.ListN.{length}
 use Rattle.value.proofs.Fields.{lies-halved}
-use Rattle.value.specs.Fields.{textPayload}
 use Rattle.value.proofs.extent_at.Statement.{statement}
 use Rattle.value.proofs.extent_at.Tie as tie
 
-enum-told : tie.Need-enum-told
-enum-told c = search needs
-
-add-needed-at : tie.Need-add-needed-at
-add-needed-at c = search needs
-
-needed-at-requires : tie.Need-needed-at-requires
-needed-at-requires c κs = search needs
-
-enum-known-shape : tie.Need-enum-known-shape
-enum-known-shape c = search needs
-
-add-needed-at-2 : tie.Need-add-needed-at-2
-add-needed-at-2 c = search needs
-
-needed-at-requires-2 : tie.Need-needed-at-requires-2
-needed-at-requires-2 c κs = search needs
-
-enum-known-shape-2 : tie.Need-enum-known-shape-2
-enum-known-shape-2 c = search needs
-
-add-text-at : tie.Need-add-text-at
-add-text-at c = search needs
-
-text-at-requires : tie.Need-text-at-requires
-text-at-requires c κs = search needs
-
 text-payload-requires : tie.Need-text-payload-requires
 text-payload-requires c κs = lies-halved (length (c .before .before .before .before .before .args .doc .now)) (c .before .before .before .before .before .args .at + 1) (c .text-at .result) (c .text-at .ensures .1)
-
-enum-known-shape-3 : tie.Need-enum-known-shape-3
-enum-known-shape-3 c = search needs
-
-add-blob-at : tie.Need-add-blob-at
-add-blob-at c = search needs
-
-blob-at-requires : tie.Need-blob-at-requires
-blob-at-requires c κs = search needs
-
-enum-known-shape-4 : tie.Need-enum-known-shape-4
-enum-known-shape-4 c = search needs
-
-add-blob-at-2 : tie.Need-add-blob-at-2
-add-blob-at-2 c = search needs
-
-blob-at-requires-2 : tie.Need-blob-at-requires-2
-blob-at-requires-2 c κs = search needs
-
-enum-told-2 : tie.Need-enum-told-2
-enum-told-2 c = search needs
-
-decimal-at-requires : tie.Need-decimal-at-requires
-decimal-at-requires c κs = search needs
-
-enum-told-3 : tie.Need-enum-told-3
-enum-told-3 c = search needs
-
-add-qname-at : tie.Need-add-qname-at
-add-qname-at c = search needs
-
-qname-at-requires : tie.Need-qname-at-requires
-qname-at-requires c κs = search needs
-
-enum-told-4 : tie.Need-enum-told-4
-enum-told-4 c = search needs
-
-add-needed-at-3 : tie.Need-add-needed-at-3
-add-needed-at-3 c = search needs
-
-needed-at-requires-3 : tie.Need-needed-at-requires-3
-needed-at-requires-3 c κs = search needs
-
-enum-told-5 : tie.Need-enum-told-5
-enum-told-5 c = search needs
-
-add-needed-at-4 : tie.Need-add-needed-at-4
-add-needed-at-4 c = search needs
-
-needed-at-requires-4 : tie.Need-needed-at-requires-4
-needed-at-requires-4 c κs = search needs
-
-enum-told-6 : tie.Need-enum-told-6
-enum-told-6 c = search needs
-
-time-at-requires : tie.Need-time-at-requires
-time-at-requires c κs = search needs
-
-enum-told-7 : tie.Need-enum-told-7
-enum-told-7 c = search needs
-
-time-at-requires-2 : tie.Need-time-at-requires-2
-time-at-requires-2 c κs = search needs
 
 returns : tie.Need-returns
 unfolding extentAt
@@ -150,37 +59,37 @@ pub extent-at-spec : {M : Type 1} → statement M
 extent-at-spec =
     tie.close
     (tie.spec
-    enum-told
-    add-needed-at
-    needed-at-requires
-    enum-known-shape
-    add-needed-at-2
-    needed-at-requires-2
-    enum-known-shape-2
-    add-text-at
-    text-at-requires
+    (λ c. search needs)
+    (λ c. search needs)
+    (λ c κs. search needs)
+    (λ c. search needs)
+    (λ c. search needs)
+    (λ c κs. search needs)
+    (λ c. search needs)
+    (λ c. search needs)
+    (λ c κs. search needs)
     text-payload-requires
-    enum-known-shape-3
-    add-blob-at
-    blob-at-requires
-    enum-known-shape-4
-    add-blob-at-2
-    blob-at-requires-2
-    enum-told-2
-    decimal-at-requires
-    enum-told-3
-    add-qname-at
-    qname-at-requires
-    enum-told-4
-    add-needed-at-3
-    needed-at-requires-3
-    enum-told-5
-    add-needed-at-4
-    needed-at-requires-4
-    enum-told-6
-    time-at-requires
-    enum-told-7
-    time-at-requires-2
+    (λ c. search needs)
+    (λ c. search needs)
+    (λ c κs. search needs)
+    (λ c. search needs)
+    (λ c. search needs)
+    (λ c κs. search needs)
+    (λ c. search needs)
+    (λ c κs. search needs)
+    (λ c. search needs)
+    (λ c. search needs)
+    (λ c κs. search needs)
+    (λ c. search needs)
+    (λ c. search needs)
+    (λ c κs. search needs)
+    (λ c. search needs)
+    (λ c. search needs)
+    (λ c κs. search needs)
+    (λ c. search needs)
+    (λ c κs. search needs)
+    (λ c. search needs)
+    (λ c κs. search needs)
     returns
     returns-2
     returns-3

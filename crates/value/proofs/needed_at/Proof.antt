@@ -5,9 +5,6 @@ use native.Mathlib.Omega.{arith}
 use Rattle.value.proofs.needed_at.Statement.{statement}
 use Rattle.value.proofs.needed_at.Tie as tie
 
-sub-if1 : tie.Need-sub-if1
-sub-if1 c = search needs
-
 returns : tie.Need-returns
 returns c = needed-there _ _ _ (omega arith)
 
@@ -15,4 +12,4 @@ returns-2 : tie.Need-returns-2
 returns-2 c = needed-short _ _ _ (omega arith)
 
 pub needed-at-spec : {M : Type 1} → statement M
-needed-at-spec = tie.close (tie.spec sub-if1 returns returns-2)
+needed-at-spec = tie.close (tie.spec (λ c. search needs) returns returns-2)

@@ -4,15 +4,6 @@ use Rattle.value.proofs.Fields.{qname-on}
 use Rattle.value.proofs.qname_at.Statement.{statement}
 use Rattle.value.proofs.qname_at.Tie as tie
 
-read-requires : tie.Need-read-requires
-read-requires c κs = search needs
-
-enum-known-number : tie.Need-enum-known-number
-enum-known-number c = search needs
-
-enum-known-value : tie.Need-enum-known-value
-enum-known-value c = search needs
-
 returns : tie.Need-returns
 returns c = qname-on (c .before .before .before .before .before .args .doc .now) (c .before .before .before .before .before .args .at) _ _ (c .before .before .before .read .ensures .0) (c .before .number .given .1)
 
@@ -21,4 +12,4 @@ returns-2 c = qname-on (c .before .before .before .before .before .args .doc .no
 
 pub qname-at-spec : {M : Type 1} → statement M
 qname-at-spec =
-    tie.close (tie.spec read-requires enum-known-number enum-known-value returns returns-2)
+    tie.close (tie.spec (λ c κs. search needs) (λ c. search needs) (λ c. search needs) returns returns-2)

@@ -5,32 +5,11 @@ use native.Mathlib.Omega.{arith}
 use Rattle.value.proofs.read.Statement.{statement}
 use Rattle.value.proofs.read.Tie as tie
 
-extent-at-requires : tie.Need-extent-at-requires
-extent-at-requires c κs = search needs
-
-enum-known-number : tie.Need-enum-known-number
-enum-known-number c = search needs
-
-enum-known-number-2 : tie.Need-enum-known-number-2
-enum-known-number-2 c = search needs
-
-enum-known-place : tie.Need-enum-known-place
-enum-known-place c = search needs
-
 add-end : tie.Need-add-end
 add-end c = let w = here-inside _ _ _ (c .before .before .before .extent-at .ensures) (c .before .place .given .1) in omega arith
 
-sub-obeys : tie.Need-sub-obeys
-sub-obeys c = search needs
-
-part-obeys-start : tie.Need-part-obeys-start
-part-obeys-start c = search needs
-
 part-obeys-end : tie.Need-part-obeys-end
 part-obeys-end c = let w = here-inside _ _ _ (c .before .before .before .extent-at .ensures) (c .before .place .given .1) in omega arith
-
-obeys-requires : tie.Need-obeys-requires
-obeys-requires c κs = search needs
 
 returns : tie.Need-returns
 returns c = (field-on _ _ (c .before .before .before .before .before .args .at) (c .before .before .before .extent-at .ensures) (c .before .number .given .1), tt)
@@ -48,15 +27,15 @@ pub read-spec : {M : Type 1} → statement M
 read-spec =
     tie.close
     (tie.spec
-    extent-at-requires
-    enum-known-number
-    enum-known-number-2
-    enum-known-place
+    (λ c κs. search needs)
+    (λ c. search needs)
+    (λ c. search needs)
+    (λ c. search needs)
     add-end
-    sub-obeys
-    part-obeys-start
+    (λ c. search needs)
+    (λ c. search needs)
     part-obeys-end
-    obeys-requires
+    (λ c κs. search needs)
     returns
     returns-2
     returns-3

@@ -8,15 +8,6 @@ use native.Mathlib.Omega.{arith}
 use Rattle.value.proofs.text_at.Statement.{statement}
 use Rattle.value.proofs.text_at.Tie as tie
 
-read-requires : tie.Need-read-requires
-read-requires c κs = search needs
-
-enum-known-number : tie.Need-enum-known-number
-enum-known-number c = search needs
-
-enum-known-value : tie.Need-enum-known-value
-enum-known-value c = search needs
-
 sub-if1 : tie.Need-sub-if1
 sub-if1 c = let w = is-within (length (c .before .before .before .before .before .args .doc .now)) (c .before .before .before .before .before .args .at) (c .before .value .given .1) (c .before .before .before .read .ensures .1) in omega arith
 
@@ -36,4 +27,4 @@ returns-3 c =
 pub text-at-spec : {M : Type 1} → statement M
 text-at-spec =
     tie.close
-    (tie.spec read-requires enum-known-number enum-known-value sub-if1 returns returns-2 returns-3)
+    (tie.spec (λ c κs. search needs) (λ c. search needs) (λ c. search needs) sub-if1 returns returns-2 returns-3)

@@ -7,12 +7,6 @@ use native.Mathlib.Omega.{arith}
 use Rattle.value.proofs.text_payload.Statement.{statement}
 use Rattle.value.proofs.text_payload.Tie as tie
 
-enum-known-text : tie.Need-enum-known-text
-enum-known-text c = search needs
-
-enum-known-text-2 : tie.Need-enum-known-text-2
-enum-known-text-2 c = search needs
-
 mul-t7 : tie.Need-mul-t7
 mul-t7 c = let h = subst (λ (t : Text). Halved t) (c .before .text2 .given .1) (c .before .before .before .pre) in omega arith
 
@@ -23,4 +17,4 @@ returns-2 : tie.Need-returns-2
 returns-2 c = ap textPayload (sym (c .before .text2 .given .1))
 
 pub text-payload-spec : {M : Type 1} → statement M
-text-payload-spec = tie.close (tie.spec enum-known-text enum-known-text-2 mul-t7 returns returns-2)
+text-payload-spec = tie.close (tie.spec (λ c. search needs) (λ c. search needs) mul-t7 returns returns-2)

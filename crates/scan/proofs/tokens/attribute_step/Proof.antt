@@ -5,21 +5,6 @@ use Rattle.scan.proofs.Steps.{attribute-on}
 use Rattle.scan.proofs.tokens.attribute_step.Statement.{statement}
 use Rattle.scan.proofs.tokens.attribute_step.Tie as tie
 
-add-qname-at : tie.Need-add-qname-at
-add-qname-at c = search needs
-
-qname-at-requires : tie.Need-qname-at-requires
-qname-at-requires c κs = search needs
-
-enum-known-number : tie.Need-enum-known-number
-enum-known-number c = search needs
-
-enum-known-number-2 : tie.Need-enum-known-number-2
-enum-known-number-2 c = search needs
-
-due-requires : tie.Need-due-requires
-due-requires c κs = search needs
-
 returns : tie.Need-returns
 returns c = attribute-on (c .before .before .before .before .before .before .args .doc .now) (c .before .before .before .before .before .before .args .v) (c .before .before .before .before .before .before .args .room) (c .before .before .before .qname-at .ensures .0) (c .before .number .given .1)
 
@@ -30,10 +15,10 @@ pub attribute-step-spec : {M : Type 1} → statement M
 attribute-step-spec =
     tie.close
     (tie.spec
-    add-qname-at
-    qname-at-requires
-    enum-known-number
-    enum-known-number-2
-    due-requires
+    (λ c. search needs)
+    (λ c κs. search needs)
+    (λ c. search needs)
+    (λ c. search needs)
+    (λ c κs. search needs)
     returns
     returns-2)

@@ -8,23 +8,11 @@ use native.Mathlib.Omega.{arith}
 use Rattle.scan.proofs.tokens.data_step.Statement.{statement}
 use Rattle.scan.proofs.tokens.data_step.Tie as tie
 
-text-at-requires : tie.Need-text-at-requires
-text-at-requires c κs = search needs
-
-enum-known-number : tie.Need-enum-known-number
-enum-known-number c = search needs
-
-enum-known-place : tie.Need-enum-known-place
-enum-known-place c = search needs
-
 mul-t12 : tie.Need-mul-t12
 mul-t12 c = let w = is-lies (length (c .before .before .before .before .before .args .doc .now)) (c .before .before .before .before .before .args .start) (c .before .place .given .1) (c .before .before .before .text-at .ensures .1) in omega arith
 
 add-t13 : tie.Need-add-t13
 add-t13 c = let w = is-lies (length (c .before .before .before .before .before .args .doc .now)) (c .before .before .before .before .before .args .start) (c .before .place .given .1) (c .before .before .before .text-at .ensures .1) in omega arith
-
-due-requires : tie.Need-due-requires
-due-requires c κs = search needs
 
 returns : tie.Need-returns
 returns c = data-on (c .before .before .before .before .before .args .doc .now) (c .before .before .before .before .before .args .v) (c .before .before .before .before .before .args .room) (c .before .before .before .before .before .args .target) (c .before .before .before .before .before .args .start) (c .before .before .before .text-at .ensures .0) (c .before .number .given .1)
@@ -36,11 +24,11 @@ pub data-step-spec : {M : Type 1} → statement M
 data-step-spec =
     tie.close
     (tie.spec
-    text-at-requires
-    enum-known-number
-    enum-known-place
+    (λ c κs. search needs)
+    (λ c. search needs)
+    (λ c. search needs)
     mul-t12
     add-t13
-    due-requires
+    (λ c κs. search needs)
     returns
     returns-2)

@@ -8,21 +8,6 @@ use Rattle.scan.proofs.tokens.element_step.Tie as tie
 returns : tie.Need-returns
 returns c = open-deep (c .before .before .before .args .doc .now) (c .before .before .before .args .v) (c .before .before .before .args .room) (c .if1 .taken)
 
-add-qname-at : tie.Need-add-qname-at
-add-qname-at c = search needs
-
-qname-at-requires : tie.Need-qname-at-requires
-qname-at-requires c κs = search needs
-
-enum-known-number : tie.Need-enum-known-number
-enum-known-number c = search needs
-
-enum-known-number-2 : tie.Need-enum-known-number-2
-enum-known-number-2 c = search needs
-
-due-requires : tie.Need-due-requires
-due-requires c κs = search needs
-
 returns-2 : tie.Need-returns-2
 returns-2 c = open-on (c .before .before .before .before .before .before .before .before .args .doc .now) (c .before .before .before .before .before .before .before .before .args .v) (c .before .before .before .before .before .before .before .before .args .room) (c .before .before .before .before .before .if1 .left) (c .before .before .before .qname-at .ensures .0) (c .before .number .given .1)
 
@@ -34,10 +19,10 @@ element-step-spec =
     tie.close
     (tie.spec
     returns
-    add-qname-at
-    qname-at-requires
-    enum-known-number
-    enum-known-number-2
-    due-requires
+    (λ c. search needs)
+    (λ c κs. search needs)
+    (λ c. search needs)
+    (λ c. search needs)
+    (λ c κs. search needs)
     returns-2
     returns-3)

@@ -9,18 +9,6 @@ use native.Mathlib.Omega.{arith}
 use Rattle.scan.proofs.tokens.extension_step.Statement.{statement}
 use Rattle.scan.proofs.tokens.extension_step.Tie as tie
 
-add-read : tie.Need-add-read
-add-read c = search needs
-
-read-requires : tie.Need-read-requires
-read-requires c κs = search needs
-
-enum-known-number : tie.Need-enum-known-number
-enum-known-number c = search needs
-
-enum-known-value : tie.Need-enum-known-value
-enum-known-value c = search needs
-
 sub-if1 : tie.Need-sub-if1
 sub-if1 c = let w = is-within (length (c .before .before .before .before .before .before .args .doc .now)) (c .before .before .before .before .before .before .args .v .at + 1) (c .before .value .given .1) (c .before .before .before .read .ensures .1) in omega arith
 
@@ -44,10 +32,10 @@ pub extension-step-spec : {M : Type 1} → statement M
 extension-step-spec =
     tie.close
     (tie.spec
-    add-read
-    read-requires
-    enum-known-number
-    enum-known-value
+    (λ c. search needs)
+    (λ c κs. search needs)
+    (λ c. search needs)
+    (λ c. search needs)
     sub-if1
     add-t14
     returns

@@ -5,15 +5,6 @@ use Rattle.scan.proofs.Steps.{local-on, qname-row, qname-full}
 use Rattle.scan.proofs.tokens.local_step.Statement.{statement}
 use Rattle.scan.proofs.tokens.local_step.Tie as tie
 
-name-at-requires : tie.Need-name-at-requires
-name-at-requires c κs = search needs
-
-enum-known-number : tie.Need-enum-known-number
-enum-known-number c = search needs
-
-enum-known-number-2 : tie.Need-enum-known-number-2
-enum-known-number-2 c = search needs
-
 returns : tie.Need-returns
 returns c = local-on (c .before .before .before .before .before .args .doc .now) (c .before .before .before .before .before .args .v) (c .before .before .before .before .before .args .room) (c .before .before .before .before .before .args .uri) (c .before .before .before .before .before .args .prefix) (c .before .before .before .before .before .args .at) (c .before .before .before .name-at .ensures .0) (c .before .number .given .1)
 
@@ -26,4 +17,4 @@ returns-3 c = qname-full (c .before .before .before .before .before .before .bef
 pub local-step-spec : {M : Type 1} → statement M
 local-step-spec =
     tie.close
-    (tie.spec name-at-requires enum-known-number enum-known-number-2 returns returns-2 returns-3)
+    (tie.spec (λ c κs. search needs) (λ c. search needs) (λ c. search needs) returns returns-2 returns-3)

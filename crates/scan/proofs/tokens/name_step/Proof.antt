@@ -9,18 +9,6 @@ use native.Mathlib.Omega.{arith}
 use Rattle.scan.proofs.tokens.name_step.Statement.{statement}
 use Rattle.scan.proofs.tokens.name_step.Tie as tie
 
-add-text-at : tie.Need-add-text-at
-add-text-at c = search needs
-
-text-at-requires : tie.Need-text-at-requires
-text-at-requires c κs = search needs
-
-enum-known-number : tie.Need-enum-known-number
-enum-known-number c = search needs
-
-enum-known-place : tie.Need-enum-known-place
-enum-known-place c = search needs
-
 mul-t13 : tie.Need-mul-t13
 mul-t13 c = let w = is-lies (length (c .before .before .before .before .before .before .before .before .before .args .doc .now)) (c .before .before .before .before .before .before .before .before .before .args .v .at + 1) (c .before .before .before .before .place .given .1) (c .before .before .before .before .before .before .text-at .ensures .1) in omega arith
 
@@ -40,10 +28,10 @@ pub name-step-spec : {M : Type 1} → statement M
 name-step-spec =
     tie.close
     (tie.spec
-    add-text-at
-    text-at-requires
-    enum-known-number
-    enum-known-place
+    (λ c. search needs)
+    (λ c κs. search needs)
+    (λ c. search needs)
+    (λ c. search needs)
     mul-t13
     add-t14
     returns

@@ -8,21 +8,6 @@ use Rattle.scan.proofs.tokens.nest_step.Tie as tie
 returns : tie.Need-returns
 returns c = nest-deep (c .before .before .before .args .doc .now) (c .before .before .before .args .v) (c .before .before .before .args .room) (c .if1 .taken)
 
-add-header-at : tie.Need-add-header-at
-add-header-at c = search needs
-
-header-at-requires : tie.Need-header-at-requires
-header-at-requires c κs = search needs
-
-enum-known-number : tie.Need-enum-known-number
-enum-known-number c = search needs
-
-enum-known-version : tie.Need-enum-known-version
-enum-known-version c = search needs
-
-due-requires : tie.Need-due-requires
-due-requires c κs = search needs
-
 returns-2 : tie.Need-returns-2
 returns-2 c = nest-on (c .before .before .before .before .before .before .before .before .args .doc .now) (c .before .before .before .before .before .before .before .before .args .v) (c .before .before .before .before .before .before .before .before .args .room) (c .before .before .before .before .before .if1 .left) (c .before .before .before .header-at .ensures .0) (c .before .number .given .1)
 
@@ -34,10 +19,10 @@ nest-step-spec =
     tie.close
     (tie.spec
     returns
-    add-header-at
-    header-at-requires
-    enum-known-number
-    enum-known-version
-    due-requires
+    (λ c. search needs)
+    (λ c κs. search needs)
+    (λ c. search needs)
+    (λ c. search needs)
+    (λ c κs. search needs)
     returns-2
     returns-3)

@@ -5,21 +5,6 @@ use Rattle.scan.proofs.Steps.{target-on}
 use Rattle.scan.proofs.tokens.pi_step.Statement.{statement}
 use Rattle.scan.proofs.tokens.pi_step.Tie as tie
 
-add-name-at : tie.Need-add-name-at
-add-name-at c = search needs
-
-name-at-requires : tie.Need-name-at-requires
-name-at-requires c κs = search needs
-
-enum-known-number : tie.Need-enum-known-number
-enum-known-number c = search needs
-
-enum-known-number-2 : tie.Need-enum-known-number-2
-enum-known-number-2 c = search needs
-
-data-step-requires : tie.Need-data-step-requires
-data-step-requires c κs = search needs
-
 returns : tie.Need-returns
 returns c = target-on (c .before .before .before .before .before .before .args .doc .now) (c .before .before .before .before .before .before .args .v) (c .before .before .before .before .before .before .args .room) (c .before .before .before .name-at .ensures .0) (c .before .number .given .1)
 
@@ -30,10 +15,10 @@ pub pi-step-spec : {M : Type 1} → statement M
 pi-step-spec =
     tie.close
     (tie.spec
-    add-name-at
-    name-at-requires
-    enum-known-number
-    enum-known-number-2
-    data-step-requires
+    (λ c. search needs)
+    (λ c κs. search needs)
+    (λ c. search needs)
+    (λ c. search needs)
+    (λ c κs. search needs)
     returns
     returns-2)

@@ -5,23 +5,11 @@ use Rattle.scan.proofs.Steps.{reference-zero, reference-over, reference
 use Rattle.scan.proofs.tokens.reference_step.Statement.{statement}
 use Rattle.scan.proofs.tokens.reference_step.Tie as tie
 
-add-t9 : tie.Need-add-t9
-add-t9 c = search needs
-
 returns : tie.Need-returns
 returns c = reference-zero (c .before .before .before .args .v) (c .before .before .before .args .room) (c .before .before .before .args .token) (c .before .before .before .args .number) (c .before .before .before .args .next) (c .before .if1 .taken)
 
-add-t10 : tie.Need-add-t10
-add-t10 c = search needs
-
 returns-2 : tie.Need-returns-2
 returns-2 c = reference-over (c .before .before .before .before .before .before .args .v) (c .before .before .before .before .before .before .args .room) (c .before .before .before .before .before .before .args .token) (c .before .before .before .before .before .before .args .number) (c .before .before .before .before .before .before .args .next) (c .before .before .before .before .if1 .left) (c .before .if2 .taken)
-
-after-value-requires : tie.Need-after-value-requires
-after-value-requires c κs = search needs
-
-due-requires : tie.Need-due-requires
-due-requires c κs = search needs
 
 returns-3 : tie.Need-returns-3
 returns-3 c = c .due .ensures ∙ rw (c .before .after-value .ensures) (reference-known (c .before .before .before .before .before .before .before .args .v) (c .before .before .before .before .before .before .before .args .room) (c .before .before .before .before .before .before .before .args .token) (c .before .before .before .before .before .before .before .args .number) (c .before .before .before .before .before .before .before .args .next) (c .before .before .before .before .before .if1 .left) (c .before .before .if2 .left))
@@ -29,4 +17,4 @@ returns-3 c = c .due .ensures ∙ rw (c .before .after-value .ensures) (referenc
 pub reference-step-spec : {M : Type 1} → statement M
 reference-step-spec =
     tie.close
-    (tie.spec add-t9 returns add-t10 returns-2 after-value-requires due-requires returns-3)
+    (tie.spec (λ c. search needs) returns (λ c. search needs) returns-2 (λ c κs. search needs) (λ c κs. search needs) returns-3)

@@ -9,26 +9,11 @@ use native.Mathlib.Omega.{arith}
 use Rattle.scan.proofs.tokens.text_step.Statement.{statement}
 use Rattle.scan.proofs.tokens.text_step.Tie as tie
 
-add-text-at : tie.Need-add-text-at
-add-text-at c = search needs
-
-text-at-requires : tie.Need-text-at-requires
-text-at-requires c κs = search needs
-
-enum-known-number : tie.Need-enum-known-number
-enum-known-number c = search needs
-
-enum-known-place : tie.Need-enum-known-place
-enum-known-place c = search needs
-
 mul-t13 : tie.Need-mul-t13
 mul-t13 c = let w = is-lies (length (c .before .before .before .before .before .before .args .doc .now)) (c .before .before .before .before .before .before .args .v .at + 1) (c .before .place .given .1) (c .before .before .before .text-at .ensures .1) in omega arith
 
 add-t14 : tie.Need-add-t14
 add-t14 c = let w = is-lies (length (c .before .before .before .before .before .before .args .doc .now)) (c .before .before .before .before .before .before .args .v .at + 1) (c .before .place .given .1) (c .before .before .before .text-at .ensures .1) in omega arith
-
-due-requires : tie.Need-due-requires
-due-requires c κs = search needs
 
 returns : tie.Need-returns
 returns c = text-on (c .before .before .before .before .before .before .args .doc .now) (c .before .before .before .before .before .before .args .v) (c .before .before .before .before .before .before .args .room) (c .before .before .before .before .before .before .args .token) (c .before .before .before .before .before .before .args .mode) (c .before .before .before .text-at .ensures .0) (c .before .number .given .1)
@@ -40,12 +25,12 @@ pub text-step-spec : {M : Type 1} → statement M
 text-step-spec =
     tie.close
     (tie.spec
-    add-text-at
-    text-at-requires
-    enum-known-number
-    enum-known-place
+    (λ c. search needs)
+    (λ c κs. search needs)
+    (λ c. search needs)
+    (λ c. search needs)
     mul-t13
     add-t14
-    due-requires
+    (λ c κs. search needs)
     returns
     returns-2)

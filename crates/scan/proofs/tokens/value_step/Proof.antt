@@ -10,32 +10,8 @@ use native.Mathlib.Omega.{arith}
 use Rattle.scan.proofs.tokens.value_step.Statement.{statement}
 use Rattle.scan.proofs.tokens.value_step.Tie as tie
 
-shape-at-requires : tie.Need-shape-at-requires
-shape-at-requires c κs = search needs
-
-read-requires : tie.Need-read-requires
-read-requires c κs = search needs
-
-enum-known-number : tie.Need-enum-known-number
-enum-known-number c = search needs
-
-enum-known-number-2 : tie.Need-enum-known-number-2
-enum-known-number-2 c = search needs
-
-reference-step-requires : tie.Need-reference-step-requires
-reference-step-requires c κs = search needs
-
-enum-known-place : tie.Need-enum-known-place
-enum-known-place c = search needs
-
-after-value-requires : tie.Need-after-value-requires
-after-value-requires c κs = search needs
-
 add-t17 : tie.Need-add-t17
 add-t17 c = let w = payload-inside (length (c .before .before .before .before .before .before .before .args .doc .now)) (c .before .before .before .before .before .before .before .args .v .at) (c .before .before .place .given .1) (c .before .before .before .before .read .ensures .1) in omega arith
-
-due-requires : tie.Need-due-requires
-due-requires c κs = search needs
 
 returns : tie.Need-returns
 returns c = value-on (c .before .before .before .before .before .before .args .doc .now) (c .before .before .before .before .before .before .args .v) (c .before .before .before .before .before .before .args .room) (c .before .before .before .before .before .before .args .token) (c .before .before .before .read .ensures .0 ∙ ap (λ (s : Shape). fieldAt s (c .before .before .before .before .before .before .args .doc .now) (c .before .before .before .before .before .before .args .v .at)) (c .before .before .before .before .shape-at .ensures)) (c .before .number .given .1)
@@ -50,15 +26,15 @@ pub value-step-spec : {M : Type 1} → statement M
 value-step-spec =
     tie.close
     (tie.spec
-    shape-at-requires
-    read-requires
-    enum-known-number
-    enum-known-number-2
-    reference-step-requires
-    enum-known-place
-    after-value-requires
+    (λ c κs. search needs)
+    (λ c κs. search needs)
+    (λ c. search needs)
+    (λ c. search needs)
+    (λ c κs. search needs)
+    (λ c. search needs)
+    (λ c κs. search needs)
     add-t17
-    due-requires
+    (λ c κs. search needs)
     returns
     returns-2
     returns-3)

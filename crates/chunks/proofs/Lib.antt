@@ -1,0 +1,4 @@
+pub mod Words
+pub mod Division
+pub mod Little
+pub mod Chunked

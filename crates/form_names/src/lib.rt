@@ -1,0 +1,131 @@
+// Names and qnames of the form: defined where they are first needed in their document, and numbered there.
+ghost use mathlib.Core.Path.{_≡_};
+ghost use mathlib.Core.List.{_∷_, _++_};
+ghost use Prim.Native.Nat.{_+_, _*_, _≤_};
+ghost use lib.ListN.{length};
+ghost use Rattle.number.specs.Number.{shortest};
+ghost use Rattle.form_output.specs.Output.{Fits, Put};
+ghost use Rattle.form_slots.specs.Slots.{slotsAfter, numberIn, Low, PartsFit};
+ghost use Rattle.form_names.specs.Naming.{bytesBefore, slots3, textsBefore, qnameNumbers, qnameBefore, namesAfter, Texts};
+use form_slots::Parts;
+
+// Defines the text of a class, unless it is empty or defined; gives the place after it.
+pub fn define_name(
+    doc: &[u8],
+    names: &[u32],
+    out: &mut [u8],
+    slots: &mut [u32; 9225],
+    rows: usize,
+    at: usize,
+    base: usize,
+    class: usize,
+) -> usize
+    requires { ⌜ Texts (now doc) (now names) rows × (class ≤ rows) × (base + 1025 ≤ 9225) × Low 20000 (now slots) × (at ≤ 1000000000000)
+        × Fits (length (now out)) at (length (bytesBefore (now doc) (now names) (now slots) base class)) ⌝ }
+    ensures { λ r. ⌜ Put (now (out .entry)) (now (out .exit)) at r (bytesBefore (now (doc .entry)) (now (names .entry)) (now (slots .entry)) base class)
+        × (now (slots .exit) ≡ slotsAfter (now (slots .entry)) base class) ⌝ }
+{
+    if class == 0 {
+        return at;
+    }
+    if slots[base + class] != 0 {
+        return at;
+    }
+    form_output::put(out, at, 0xF0);
+    let k = class - 1;
+    form_slots::mark(slots, base, class);
+    form_bytes::put_text(
+        doc,
+        slices::cell(names, 2 * k),
+        slices::cell(names, 2 * k + 1),
+        out,
+        at + 1,
+    )
+}
+
+// Defines the texts of a qname.
+fn define_texts(
+    doc: &[u8],
+    names: &[u32],
+    out: &mut [u8],
+    slots: &mut [u32; 9225],
+    rows: usize,
+    at: usize,
+    base: usize,
+    q: Parts,
+) -> usize
+    requires { ⌜ Texts (now doc) (now names) rows × PartsFit rows q × (base + 1025 ≤ 9225) × Low 19000 (now slots) × (at ≤ 900000000000)
+        × Fits (length (now out)) at (length (textsBefore (now doc) (now names) (now slots) base q)) ⌝ }
+    ensures { λ r. ⌜ Put (now (out .entry)) (now (out .exit)) at r (textsBefore (now (doc .entry)) (now (names .entry)) (now (slots .entry)) base q)
+        × (now (slots .exit) ≡ slots3 (now (slots .entry)) base q) ⌝ }
+{
+    let x = define_name(doc, names, out, slots, rows, at, base, q.uri);
+    let y = define_name(doc, names, out, slots, rows, x, base, q.prefix);
+    define_name(doc, names, out, slots, rows, y, base, q.local)
+}
+
+// The definition of a qname, by the numbers of its texts.
+fn put_qname(out: &mut [u8], slots: &[u32; 9225], at: usize, base: usize, q: Parts) -> usize
+    requires { ⌜ PartsFit 1024 q × (base + 1025 ≤ 9225) × Low 20000 (now slots) × (at ≤ 1000000000000) ⌝ }
+    ensures { λ r. ⌜ Put (now (out .entry)) (now (out .exit)) at r (qnameNumbers (now (slots .entry)) base q) ⌝ }
+{
+    form_output::put(out, at, 0xEF);
+    let x = form_output::put_number(out, at + 1, form_slots::number_in(slots, base, q.uri));
+    let y = form_output::put_number(out, x, form_slots::number_in(slots, base, q.prefix));
+    form_output::put_number(out, y, form_slots::number_in(slots, base, q.local))
+}
+
+// Defines a qname with its texts, unless it is defined.
+fn define_qname(
+    doc: &[u8],
+    names: &[u32],
+    out: &mut [u8],
+    slots: &mut [u32; 9225],
+    qslots: &mut [u32; 9225],
+    rows: usize,
+    at: usize,
+    base: usize,
+    q: Parts,
+    class: usize,
+) -> usize
+    requires { ⌜ Texts (now doc) (now names) rows × PartsFit rows q × (1 ≤ class) × (class ≤ 1024) × (base + 1025 ≤ 9225) × Low 19000 (now slots)
+        × Low 19000 (now qslots) × (at ≤ 900000000000)
+        × Fits (length (now out)) at (length (qnameBefore (now doc) (now names) (now slots) (now qslots) base q class)) ⌝ }
+    ensures { λ r. ⌜ Put (now (out .entry)) (now (out .exit)) at r (qnameBefore (now (doc .entry)) (now (names .entry)) (now (slots .entry)) (now (qslots .entry)) base q class)
+        × (now (slots .exit) ≡ namesAfter (now (slots .entry)) (now (qslots .entry)) base q class)
+        × (now (qslots .exit) ≡ slotsAfter (now (qslots .entry)) base class) ⌝ }
+{
+    if qslots[base + class] != 0 {
+        return at;
+    }
+    let p = define_texts(doc, names, out, slots, rows, at, base, q);
+    form_slots::mark(qslots, base, class);
+    put_qname(out, slots, p, base, q)
+}
+
+// An ELEMENT, an ATTRIBUTE or an XSD-QNAME with the qname that it refers to.
+pub fn refer(
+    doc: &[u8],
+    names: &[u32],
+    out: &mut [u8],
+    slots: &mut [u32; 9225],
+    qslots: &mut [u32; 9225],
+    rows: usize,
+    at: usize,
+    base: usize,
+    token: u8,
+    q: Parts,
+    class: usize,
+) -> usize
+    requires { ⌜ Texts (now doc) (now names) rows × PartsFit rows q × (1 ≤ class) × (class ≤ 1024) × (base + 1025 ≤ 9225) × Low 19000 (now slots)
+        × Low 19000 (now qslots) × (at ≤ 900000000000)
+        × Fits (length (now out)) at (length (qnameBefore (now doc) (now names) (now slots) (now qslots) base q class)) ⌝ }
+    ensures { λ r. ⌜ Put (now (out .entry)) (now (out .exit)) at r (qnameBefore (now (doc .entry)) (now (names .entry)) (now (slots .entry)) (now (qslots .entry)) base q class
+        ++ (token ∷ shortest (numberIn (slotsAfter (now (qslots .entry)) base class) base class)))
+        × (now (slots .exit) ≡ namesAfter (now (slots .entry)) (now (qslots .entry)) base q class)
+        × (now (qslots .exit) ≡ slotsAfter (now (qslots .entry)) base class) ⌝ }
+{
+    let p = define_qname(doc, names, out, slots, qslots, rows, at, base, q, class);
+    form_output::put(out, p, token);
+    form_output::put_number(out, p + 1, form_slots::number_in(qslots, base, class))
+}

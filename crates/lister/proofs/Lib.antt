@@ -1,4 +1,0 @@
-pub mod Units
-pub mod Coded
-pub mod Listed
-pub mod Theorems

@@ -1,0 +1,4 @@
+pub mod Units
+pub mod Coded
+pub mod Theorems
+pub mod Listed

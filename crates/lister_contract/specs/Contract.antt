@@ -1,0 +1,50 @@
+-- What listing promises: its answer, the three tables as reading leaves them, and the list of pairs, for any document, tables
+-- and list (01, "Answer numbers").
+use Prim.Native.Nat.{ℕ, _/_}
+use mathlib.Core.Path.{_≡_}
+use mathlib.Core.Bool.{cond}
+use mathlib.Core.List.{List}
+use lib.Dec.{ltb, eqb}
+use lib.ListN.{length}
+use Rattle.sequences.specs.Lists.{overlay}
+use Rattle.token.specs.Answers.{accepted, noPairs}
+use Rattle.machine.specs.Rows.{flatNames, flatQnames, flatEvents}
+use Rattle.machine.specs.Machine.{Result}
+use Rattle.machine.specs.Events.{eventsOf}
+use Rattle.meaning.specs.Meaning.{Symbol, meanings, sameMeaning}
+use Rattle.meaning.specs.Pairs.{Pair, pairsOf, flatPairs}
+use Rattle.lister_contract.specs.declared.Answer.{Answer}
+
+abbrev pub answer : ℕ → ℕ → ℕ → ℕ → Answer
+answer number place records pairs = record { number = number; place = place; records = records; pairs = pairs }
+
+-- the meanings of the records of a document that was read so, and their pairs
+unfoldable pub meaningsIn : List ℕ → Result → List (List Symbol)
+meaningsIn doc r = meanings (eventsOf doc (r .final))
+
+unfoldable pub pairsIn : List ℕ → Result → List Pair
+pairsIn doc r = pairsOf sameMeaning (meaningsIn doc r)
+
+-- the whole pairs that a list holds, two numbers each
+abbrev pub pairRoom : List ℕ → ℕ
+pairRoom list = length list / 2
+
+-- an accepted document: 11 with the pairs in full for its count where the list is too small, else 0 with reading's place
+unfoldable pub judged : ℕ → ℕ → ℕ → ℕ → Answer
+judged place records pairs room = cond (ltb room pairs) (answer noPairs pairs records pairs) (answer accepted place records pairs)
+
+-- 1 to 9 are reading's
+unfoldable pub answerOf : List ℕ → Result → ℕ → Answer
+answerOf doc r room =
+    cond (eqb (r .number) accepted) (judged (r .place) (length (meaningsIn doc r)) (length (pairsIn doc r)) room) (answer (r .number) (r .place) 0 0)
+
+-- the list holds the pairs, laid over what stood there; a refused list is not touched
+unfoldable pub listOf : List ℕ → Result → List ℕ → List ℕ
+listOf doc r list = cond (eqb (answerOf doc r (pairRoom list) .number) accepted) (overlay (flatPairs (pairsIn doc r)) list) list
+
+pub record Lists (doc : List ℕ) (r : Result) (names qnames events list names′ qnames′ events′ list′ : List ℕ) (a : Answer) : Type 0 where
+  pub answer-is : a ≡ answerOf doc r (pairRoom list)
+  pub names-are : names′ ≡ overlay (flatNames (r .final .names)) names
+  pub qnames-are : qnames′ ≡ overlay (flatQnames (r .final .qnames)) qnames
+  pub events-are : events′ ≡ overlay (flatEvents (r .final .events)) events
+  pub list-is : list′ ≡ listOf doc r list

@@ -1,5 +1,0 @@
-pub mod Tests
-pub mod Match
-pub mod Table
-pub mod Overlay
-pub mod Units

@@ -1,0 +1,13 @@
+pub mod Rows
+pub mod Earlier
+pub mod Trace
+pub mod Found
+pub mod Whole
+pub mod Checks
+pub mod Facts
+pub mod Outside
+pub mod Refusals
+pub mod Readings
+pub mod Balance
+pub mod Goes
+pub mod Codes

@@ -1,0 +1,7 @@
+pub mod Rows
+pub mod Machine
+pub mod Facts
+pub mod Examples
+pub mod Balance
+pub mod Events
+pub mod Contract

@@ -1,0 +1,29 @@
+-- A table with one mark for each row of qnames, and what a mark tells.
+use Prim.Native.Nat.{ℕ, _+_, _-_, _%_, _≤_}
+use mathlib.Core.Path.{_≡_}
+use mathlib.Core.Bool.{Bool, cond}
+use mathlib.Core.List.{List}
+use lib.Dec.{leb}
+use lib.ListN.{length, getD}
+use Rattle.meaning.specs.Codes.{mark}
+use Rattle.marks.specs.Names.{pairOf, declaresAt}
+
+-- ---- marks of rows of qnames, in a table from row 1 on
+
+-- the opening mark
+unfoldable pub openingIn : List ℕ → ℕ → ℕ
+openingIn marks row = getD marks (row - 1) 0 % 2147483648
+
+-- an attribute with this qname declares a prefix
+unfoldable pub declaredIn : List ℕ → ℕ → Bool
+declaredIn marks row = leb 2147483648 (getD marks (row - 1) 0)
+
+-- the opening mark of row `row` of qnames, and 2 ^ 31 more where an attribute with this qname declares a prefix
+unfoldable pub markOf : List ℕ → List ℕ → List ℕ → List ℕ → ℕ → ℕ → ℕ
+markOf doc names qnames classes rows row = mark 0 (pairOf qnames classes row) + cond (declaresAt doc names qnames rows row) 2147483648 0
+
+-- the table: at place row - 1 the mark of row `row`; the pairs are small, so that 2 ^ 31 more can be told from a mark alone
+pub record MarksOf (doc names qnames classes : List ℕ) (rows qrows : ℕ) (marks : List ℕ) : Type 0 where
+  pub long : length marks ≡ 1024
+  pub each : (row : ℕ) → 1 ≤ row → row ≤ qrows → getD marks (row - 1) 0 ≡ markOf doc names qnames classes rows row
+  pub small : (row : ℕ) → 1 ≤ row → row ≤ qrows → pairOf qnames classes row ≤ 1050624

@@ -1,0 +1,136 @@
+-- Where tokens may stand (01, "Document rules"): what may come next is a mode.
+use Prim.Native.Nat.{ℕ}
+use mathlib.Core.Bool.{Bool, true, false, _&&_, _||_}
+use lib.Dec.{ltb, eqb}
+use Rattle.token.specs.declared.Class.{Class}
+use Rattle.token.specs.declared.Class.the-variants as class
+use Rattle.modes.specs.declared.Mode.{Mode}
+use Rattle.modes.specs.declared.Mode.the-variants.{Content, Tag, First, Prolog, AfterDocType, AfterSystem, AfterPublic, Attributes, Cdata, AfterXmlDecl, AfterEncoding}
+use Rattle.modes.specs.declared.View.{View}
+
+-- at root or in an element: comments, PIs, metadata, values, elements, CDATA and nested documents stand here
+abbrev pub content : Mode → Bool
+content Content = true
+content Tag = true
+content First = true
+content Prolog = true
+content AfterDocType = true
+content AfterSystem = true
+content AfterPublic = true
+content Attributes = false
+content Cdata = false
+content AfterXmlDecl = false
+content AfterEncoding = false
+
+-- from an ATTRIBUTE to ENDATTRIBUTES
+abbrev pub listing : Mode → Bool
+listing Content = false
+listing Tag = false
+listing First = false
+listing Prolog = false
+listing AfterDocType = false
+listing AfterSystem = false
+listing AfterPublic = false
+listing Attributes = true
+listing Cdata = false
+listing AfterXmlDecl = false
+listing AfterEncoding = false
+
+-- inside an XML declaration: the next byte is no token
+abbrev pub declares : Mode → Bool
+declares Content = false
+declares Tag = false
+declares First = false
+declares Prolog = false
+declares AfterDocType = false
+declares AfterSystem = false
+declares AfterPublic = false
+declares Attributes = false
+declares Cdata = false
+declares AfterXmlDecl = true
+declares AfterEncoding = true
+
+-- a mode's number, to compare two of them
+abbrev pub numberOf : Mode → ℕ
+numberOf Content = 0
+numberOf Tag = 1
+numberOf First = 2
+numberOf Prolog = 3
+numberOf AfterDocType = 4
+numberOf AfterSystem = 5
+numberOf AfterPublic = 6
+numberOf Attributes = 7
+numberOf Cdata = 8
+numberOf AfterXmlDecl = 9
+numberOf AfterEncoding = 10
+
+abbrev pub is : Mode → Mode → Bool
+is m n = eqb (numberOf m) (numberOf n)
+
+-- a token of this class may stand here
+abbrev pub allowed : Class → View → Bool
+allowed class.Unknown v = false
+allowed class.Value v = content (v .mode) || listing (v .mode)
+allowed class.LaterValue v = (content (v .mode) || listing (v .mode)) && eqb (v .version) 2
+allowed class.XmlDecl v = is (v .mode) First
+allowed class.Encoding v = false
+allowed class.DocType v = is (v .mode) First || is (v .mode) Prolog
+allowed class.System v = is (v .mode) AfterDocType
+allowed class.Public v = is (v .mode) AfterDocType || is (v .mode) AfterSystem
+allowed class.Subset v = is (v .mode) AfterDocType || is (v .mode) AfterSystem || is (v .mode) AfterPublic
+allowed class.Element v = content (v .mode)
+allowed class.EndElement v = content (v .mode) && ltb 0 (v .elements)
+allowed class.Attribute v = is (v .mode) Tag || listing (v .mode)
+allowed class.EndAttributes v = listing (v .mode)
+allowed class.Pi v = content (v .mode)
+allowed class.Comment v = content (v .mode)
+allowed class.Cdata v = content (v .mode) || is (v .mode) Cdata
+allowed class.CdataEnd v = is (v .mode) Cdata
+allowed class.NameDef v = content (v .mode) || listing (v .mode)
+allowed class.QnameDef v = content (v .mode) || listing (v .mode)
+allowed class.Nest v = content (v .mode)
+allowed class.EndNest v = content (v .mode) && ltb 0 (v .depth) && eqb (v .elements) 0
+allowed class.Extension v = content (v .mode) || listing (v .mode)
+allowed class.Flush v = content (v .mode) || listing (v .mode)
+
+-- after metadata: DOCTYPEDECL and ATTRIBUTE stay possible
+abbrev pub afterMetadata : Mode → Mode
+afterMetadata Content = Content
+afterMetadata Tag = Tag
+afterMetadata First = Prolog
+afterMetadata Prolog = Prolog
+afterMetadata AfterDocType = Content
+afterMetadata AfterSystem = Content
+afterMetadata AfterPublic = Content
+afterMetadata Attributes = Attributes
+afterMetadata Cdata = Cdata
+afterMetadata AfterXmlDecl = AfterXmlDecl
+afterMetadata AfterEncoding = AfterEncoding
+
+-- after a comment or a PI: DOCTYPEDECL stays possible
+abbrev pub afterMisc : Mode → Mode
+afterMisc Content = Content
+afterMisc Tag = Content
+afterMisc First = Prolog
+afterMisc Prolog = Prolog
+afterMisc AfterDocType = Content
+afterMisc AfterSystem = Content
+afterMisc AfterPublic = Content
+afterMisc Attributes = Content
+afterMisc Cdata = Content
+afterMisc AfterXmlDecl = Content
+afterMisc AfterEncoding = Content
+
+-- after a value: an attribute list goes on
+abbrev pub afterValue : Mode → Mode
+afterValue Content = Content
+afterValue Tag = Content
+afterValue First = Content
+afterValue Prolog = Content
+afterValue AfterDocType = Content
+afterValue AfterSystem = Content
+afterValue AfterPublic = Content
+afterValue Attributes = Attributes
+afterValue Cdata = Content
+afterValue AfterXmlDecl = Content
+afterValue AfterEncoding = Content

@@ -1,5 +1,0 @@
-pub mod Marks
-pub mod Names
-pub mod Qnames
-pub mod Layers
-pub mod Steps

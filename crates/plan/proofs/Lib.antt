@@ -1,0 +1,3 @@
+pub mod Plans
+pub mod Lengths
+pub mod Rules

@@ -1,0 +1,58 @@
+// What the listing program prints, made at the end of one array from the last line to the first, so that it goes out in one
+// write and no number is moved.
+ghost use mathlib.Core.Path.{_≡_};
+ghost use mathlib.Core.List.{_++_};
+ghost use Prim.Native.Nat.{_+_, _*_, _≤_};
+ghost use lib.ListN.{length, take};
+ghost use Rattle.print_lines.specs.Lines.{PutBefore};
+ghost use Rattle.print_listing.specs.Printed.{pairLines, printed, pairRows, FullListed};
+use lister_contract::Answer;
+
+// A line for each of the first `count` pairs of a list, at the end of the text.
+fn put_pairs(text: &mut [u8], pairs: &[u32], count: usize) -> usize
+    requires { ⌜ (2 * count ≤ length (now pairs)) × (56 + 22 * count ≤ length (now text)) ⌝ }
+    ensures { λ r. ⌜ PutBefore (now (text .entry)) (now (text .exit)) (length (now (text .entry))) r (pairLines (pairRows count (now (pairs .entry)))) × (56 ≤ r) ⌝ }
+{
+    let mut at = text.len();
+    let mut k = count;
+    while 0 < k {
+        k -= 1;
+        let earlier = slices::cell(pairs, 2 * k);
+        let later = slices::cell(pairs, 2 * k + 1);
+        at = print_lines::put_line(text, at, b"", earlier, b" ", later);
+    }
+    at
+}
+
+// Lists with tables at the full bounds.
+fn list_full(doc: &[u8], pairs: &mut [u32]) -> Answer
+    requires { ⌜ length (now pairs) ≡ 16384 ⌝ }
+    ensures { λ r. ⌜ FullListed (now (doc .entry)) (now (pairs .entry)) (now (pairs .exit)) r ⌝ }
+{
+    let mut names = [0u32; 2048];
+    let mut qnames = [0u32; 3072];
+    let mut events = [0u32; 16384];
+    lister::list(doc, &mut names, &mut qnames, &mut events, pairs)
+}
+
+// Lists a document and puts what the program prints at the end of `text`; gives the place where it begins. What stands before it stays. A line of a pair
+// has at most 22 bytes, the first line at most 56.
+pub fn print(doc: &[u8], text: &mut [u8]) -> usize
+    requires { ⌜ length (now text) ≡ 180280 ⌝ }
+    ensures { λ r. ⌜ (now (text .exit) ≡ take r (now (text .entry)) ++ printed (now (doc .entry))) × (r ≤ 180280) ⌝ }
+{
+    let mut pairs = [0u32; 16384];
+    let a = list_full(doc, &mut pairs);
+    if a.number != 0 {
+        return print_lines::put_line(
+            text,
+            180280,
+            b"refused ",
+            a.number as usize,
+            b" at ",
+            a.place,
+        );
+    }
+    let end = put_pairs(text, &pairs, a.pairs);
+    print_lines::put_line(text, end, b"records ", a.records, b" pairs ", a.pairs)
+}

@@ -1,0 +1,40 @@
+-- `print_reading::print` meets its contract. Assumes nothing.
+use borrow.Author.Needs.{needs}
+use native.Mathlib.Omega.{arith}
+use Prim.Native.Nat.{ℕ}
+use lib.ListN.{length-replicate}
+use Rattle.filled.proofs.Filled.{names-long, qnames-long, events-long}
+use Rattle.print_reading.proofs.Texts.{rows-held, all-printed}
+use Rattle.print_reading.proofs.print.Statement.{statement}
+use Rattle.print_reading.proofs.print.Tie as tie
+
+put-rows-requires : tie.Need-put-rows-requires
+put-rows-requires c κs =
+    let h = c .before .before .before .before .before .before .before .read .ensures in
+    let f = rows-held (c .before .before .before .before .before .before .before .before .before .before .before .before .before .args .doc .now) (length-replicate {A = ℕ} 2048 0) (length-replicate {A = ℕ} 3072 0) (length-replicate {A = ℕ} 16384 0) h in
+    (c .before .before .before .before .before .before .before .before .before .before .before .before .before .pre, f .0, f .1, f .2, names-long h, qnames-long h, events-long h)
+
+returns : tie.Need-returns
+returns c =
+    let x = c .before .before .before .before .before .before .before .before .before .before .before .before .before .before .before .before .before .before .before .before in
+    let p = c .before .before .before .before .before .before .put-rows .ensures in
+    let q = c .before .before .put-answer .ensures in (
+      all-printed (x .args .doc .now) (length-replicate {A = ℕ} 2048 0) (length-replicate {A = ℕ} 3072 0) (length-replicate {A = ℕ} 16384 0) (c .before .before .before .before .before .before .before .before .before .before .before .before .before .before .read .ensures) (x .pre) (p .0) q,
+      omega (arith, p .0 .place, q .place),
+    )
+
+pub print-spec : {M : Type 1} → statement M
+print-spec =
+    tie.close
+    (tie.spec
+    (λ c. search needs)
+    (λ c. search needs)
+    (λ c. search needs)
+    (λ c κs. search needs)
+    (λ c. search needs)
+    (λ c. search needs)
+    (λ c. search needs)
+    put-rows-requires
+    (λ c κs. search needs)
+    (λ c. search needs)
+    returns)

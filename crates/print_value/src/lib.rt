@@ -1,0 +1,56 @@
+// What the value program prints, made at the end of one array from the last byte to the first.
+ghost use mathlib.Core.Path.{_≡_};
+ghost use mathlib.Core.List.{_++_};
+ghost use Prim.Native.Nat.{_≤_};
+ghost use lib.ListN.{length, take};
+ghost use Rattle.text.specs.Shows.{partOf, answerOf};
+ghost use Rattle.print_lines.specs.Lines.{PutBefore};
+ghost use Rattle.print_value.specs.Display.{textLines, refusal, shownLines, printed};
+use text::Shown;
+
+// `accepted N`, and the bytes in hexadecimal.
+fn put_text(out: &mut [u8], text: &[u8]) -> usize
+    requires { ⌜ (length (now out) ≡ 524483) × (length (now text) ≤ 262226) ⌝ }
+    ensures { λ r. ⌜ PutBefore (now (out .entry)) (now (out .exit)) 524483 r (textLines (now (text .entry))) ⌝ }
+{
+    let last = print_lines::put_word(out, 524483, b"\n");
+    let digits = print_lines::put_hex(out, last, text);
+    let first = print_lines::put_word(out, digits, b"\n");
+    print_lines::put_field(out, first, b"accepted ", text.len())
+}
+
+// `refused C at N`.
+fn put_refusal(out: &mut [u8], number: u32, count: usize) -> usize
+    requires { ⌜ length (now out) ≡ 524483 ⌝ }
+    ensures { λ r. ⌜ PutBefore (now (out .entry)) (now (out .exit)) 524483 r (refusal number count) ⌝ }
+{
+    print_lines::put_line(out, 524483, b"refused ", number as usize, b" at ", count)
+}
+
+// What `show` answered.
+fn put_shown<'a>(out: &mut [u8], payload: &'a [u8], buffer: &'a [u8], shown: Shown) -> usize
+    requires { ⌜ (length (now out) ≡ 524483) × (length (partOf (now payload) (now buffer) shown) ≤ 262226) ⌝ }
+    ensures { λ r. ⌜ PutBefore (now (out .entry)) (now (out .exit)) 524483 r (shownLines (answerOf shown) (partOf (now (payload .entry)) (now (buffer .entry)) shown)) ⌝ }
+{
+    match shown {
+        Shown::Own(_) => put_text(out, text::part(payload, buffer, shown)),
+        Shown::Made(_) => put_text(out, text::part(payload, buffer, shown)),
+        Shown::Short(n) => put_refusal(out, token::NO_ROOM, n),
+        Shown::NoText => put_refusal(out, token::NO_TEXT, 0),
+    }
+}
+
+// Shows the value of an input and puts what the program prints at the end of `out`; gives the place where it begins. What stands before it stays. A text has
+// at most 82 bytes more than four for each byte of its payload, so the buffer holds every text.
+pub fn print(input: &[u8], out: &mut [u8]) -> usize
+    requires { ⌜ length (now out) ≡ 524483 ⌝ }
+    ensures { λ r. ⌜ (now (out .exit) ≡ take r (now (out .entry)) ++ printed (now (input .entry))) × (r ≤ 524483) ⌝ }
+{
+    if input.len() == 0 {
+        return put_refusal(out, token::NO_TEXT, 0);
+    }
+    let payload = &input[1..];
+    let mut buffer = [0u8; 262226];
+    let shown = text::show(input[0], payload, &mut buffer);
+    put_shown(out, payload, &buffer, shown)
+}

@@ -1,0 +1,72 @@
+// Classes of rows of qnames with equal texts, by the classes of their names: no text is compared.
+ghost use mathlib.Core.Path.{_≡_};
+ghost use Prim.Native.Nat.{_+_, _*_, _%_, _≤_, _<_};
+ghost use lib.ListN.{length, getD};
+ghost use Rattle.sequences.specs.Lists.{Front};
+ghost use Rattle.machine.specs.Facts.{Every, QnameFits};
+ghost use Rattle.classes.specs.Tables.{nameRowsIn, qnameRowsIn};
+ghost use Rattle.classes.specs.Classes.{nameClasses, qnameClasses};
+ghost use Rattle.classes.specs.Search.{Last, Chained, Keyable, keyAt};
+
+// The classes of a row of qnames as one number: equal keys mean equal texts.
+fn key_of(qnames: &[u32], classes: &[u32; 1024], r: usize) -> u32
+    requires { ⌜ (r < 1024) × (3 * r + 3 ≤ length (now qnames)) × Keyable (now classes) (getD (now qnames) (3 * r) 0)
+        × Keyable (now classes) (getD (now qnames) (3 * r + 1) 0) × Keyable (now classes) (getD (now qnames) (3 * r + 2) 0) ⌝ }
+    ensures { λ k. ⌜ k ≡ keyAt (now (qnames .entry)) (now (classes .entry)) r ⌝ }
+{
+    let uri = classes::class_of(qnames, classes, 3 * r);
+    let prefix = classes::class_of(qnames, classes, 3 * r + 1);
+    let local = classes::class_of(qnames, classes, 3 * r + 2);
+    (uri * 1025 + prefix) * 1025 + local
+}
+
+// The last place before place `r` that holds its key, along the chain of its slot from place `first` on; 1024 where there is none.
+fn find_key(keys: &[u32; 1024], chain: &[u16; 1024], first: usize, r: usize) -> usize
+    requires { ⌜ (r < 1024) × Chained (λ k. getD (now keys) k 0 % 2039) r (now chain)
+        × Last (λ k. getD (now keys) k 0 % 2039) (getD (now keys) r 0 % 2039) r first ⌝ }
+    ensures { λ j. ⌜ Last (λ k. getD (now (keys .entry)) k 0) (getD (now (keys .entry)) r 0) r j ⌝ }
+{
+    let key = keys[r];
+    let mut j = first;
+    while j < 1024 {
+        if keys[j] == key {
+            return j;
+        }
+        j = chain[j] as usize;
+    }
+    j
+}
+
+// The class of each of the first `count` rows of qnames; `classes` are those of the names' rows.
+pub fn qname_classes(
+    doc: &[u8],
+    names: &[u32],
+    rows: usize,
+    qnames: &[u32],
+    count: usize,
+    classes: &[u32; 1024],
+    qclasses: &mut [u32; 1024],
+)
+    requires { ⌜ (rows ≤ 1024) × (2 * rows ≤ length (now names)) × (count ≤ 1024) × (3 * count ≤ length (now qnames))
+        × (length (now classes) ≡ 1024) × (length (now qclasses) ≡ 1024)
+        × Front (nameClasses (now doc) (nameRowsIn rows (now names))) (now classes)
+        × Every (QnameFits rows) (qnameRowsIn count (now qnames)) ⌝ }
+    ensures { λ _. ⌜ Front (qnameClasses (now (doc .entry)) (nameRowsIn rows (now (names .entry))) (qnameRowsIn count (now (qnames .entry)))) (now (qclasses .exit))
+        × (length (now (qclasses .exit)) ≡ 1024) ⌝ }
+{
+    // as for names; a row's slot is that of its key
+    let mut slots = [1024u16; 2039];
+    let mut chain = [1u16; 1024];
+    let mut keys = [1u32; 1024];
+    let mut r: usize = 0;
+    while r < count {
+        let key = key_of(qnames, classes, r);
+        keys[r] = key;
+        let s = (key % 2039) as usize;
+        let first = slots[s] as usize;
+        let j = find_key(&keys, &chain, first, r);
+        qclasses[r] = classes::class_or(qclasses, j, r as u32 + 1);
+        classes::put_row(&mut slots, &mut chain, s, r);
+        r += 1;
+    }
+}

@@ -1,0 +1,6 @@
+pub mod Tests
+pub mod Match
+pub mod Table
+pub mod Overlay
+pub mod Units
+pub mod Store

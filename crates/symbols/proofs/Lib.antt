@@ -1,0 +1,4 @@
+pub mod Rooms
+pub mod Going
+pub mod Texts
+pub mod Values
