@@ -3,6 +3,17 @@
 ghost use mathlib.Core.Path.{_≡_};
 ghost use Prim.Native.Nat.{_+_, _≤_, _<_};
 ghost use lib.ListN.{length};
+ghost use Rattle.io.specs.Counts.{Counts};
+
+// The numbers in the three tables of reading at their full size.
+pub const NAMES: usize = 2048;
+
+pub const QNAMES: usize = 3072;
+
+pub const EVENTS: usize = 16384;
+
+// The bytes of the largest document, and one more, so that a document over the limit is noticed.
+pub const DOCUMENT: usize = 65537;
 
 // The end of the line that begins at a place: the next line feed, or the text's end.
 pub fn line_end(text: &[u8], from: usize) -> usize
@@ -32,6 +43,14 @@ pub fn word_end(line: &[u8], from: usize) -> usize
         at += 1;
     }
     at
+}
+
+// The place after a word and the space that ends it.
+pub fn after_space(line: &[u8], end: usize) -> usize
+    requires { ⌜ end ≤ length (now line) ⌝ }
+    ensures { λ r. ⌜ (end ≤ r) × (r ≤ length (now (line .entry))) ⌝ }
+{
+    if end < line.len() { end + 1 } else { end }
 }
 
 // The value of a hexadecimal digit, or 16.
@@ -94,6 +113,36 @@ pub fn decimal(word: &[u8]) -> usize
     value
 }
 
+// Writes a word and a number.
+pub fn say(word: &[u8], number: usize) {
+    io::write_all(libc::STDOUT_FILENO, word);
+    io::print_decimal(libc::STDOUT_FILENO, number as u64);
+}
+
+// Whether a byte from `from` on is not the mark that stood there.
+pub fn changed_bytes(bytes: &[u8], from: usize, mark: u8) -> bool {
+    let mut at = from;
+    while at < bytes.len() {
+        if bytes[at] != mark {
+            return true;
+        }
+        at += 1;
+    }
+    false
+}
+
+// Whether a number from `from` on is not the mark that stood there.
+pub fn changed(numbers: &[u32], from: usize, mark: u32) -> bool {
+    let mut at = from;
+    while at < numbers.len() {
+        if numbers[at] != mark {
+            return true;
+        }
+        at += 1;
+    }
+    false
+}
+
 // The number that an argument of the program spells.
 pub fn argument(i: usize) -> usize
     ensures { λ r. ⌜ r ≤ 99999999 ⌝ }
@@ -105,7 +154,7 @@ pub fn argument(i: usize) -> usize
 
 // Reads the file that an argument of the program names; how many bytes it has, as far as the buffer holds them.
 pub fn load(i: usize, buffer: &mut [u8]) -> usize
-    ensures { λ r. ⌜ (r ≤ length (now (buffer .exit))) × (length (now (buffer .exit)) ≡ length (now (buffer .entry))) ⌝ }
+    ensures { λ r. ⌜ Counts r (now (buffer .exit)) ⌝ }
 {
     let mut path = io::buffer();
     let length = os::arg(i, &mut path);

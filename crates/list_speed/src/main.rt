@@ -1,31 +1,4 @@
-// Lists one document so many times and writes the sum of the pairs: for counting instructions (docs/PERFORMANCE.md).
-// Its arguments are the number of times and the file's name.
-use libc::STDOUT_FILENO;
-
-fn wide(x: u32) -> u64 {
-    x as u64
-}
-
-fn repeat(doc: &[u8], count: usize) -> u64 {
-    let mut names = [0u32; 2048];
-    let mut qnames = [0u32; 3072];
-    let mut events = [0u32; 16384];
-    let mut pairs = [0u32; 16384];
-    let mut sum: u64 = 0;
-    let mut i = 0;
-    while i < count {
-        let a = lister::list(doc, &mut names, &mut qnames, &mut events, &mut pairs);
-        sum = std::num::wrapping_add_u64(sum, a.pairs as u64);
-        // what was written is looked at, so that the compiler keeps the writing
-        sum = std::num::wrapping_add_u64(sum, wide(pairs[0]));
-        i += 1;
-    }
-    sum
-}
-
+// Lists one document so many times, for counting instructions. The crate speed has the loop and says why each job has a program.
 fn main() {
-    let mut doc = [0u8; 65537];
-    let size = cases::load(2, &mut doc);
-    io::print_decimal(STDOUT_FILENO, repeat(&doc[..size], cases::argument(1)));
-    io::write_all(STDOUT_FILENO, b"\n");
+    speed::list();
 }

@@ -1,32 +1,4 @@
-// Reads one document so many times and writes the sum of the events: for counting instructions (docs/PERFORMANCE.md).
-// Its arguments are the number of times and the file's name.
-use libc::STDOUT_FILENO;
-
-fn wide(x: u32) -> u64 {
-    x as u64
-}
-
-fn repeat(doc: &[u8], count: usize) -> u64 {
-    let mut names = [0u32; 2048];
-    let mut qnames = [0u32; 3072];
-    let mut events = [0u32; 16384];
-    let mut sum: u64 = 0;
-    let mut i = 0;
-    while i < count {
-        let a = reader::read(doc, &mut names, &mut qnames, &mut events);
-        sum = std::num::wrapping_add_u64(sum, a.events as u64);
-        // what was written is looked at, so that the compiler keeps the writing
-        sum = std::num::wrapping_add_u64(sum, wide(names[0]));
-        sum = std::num::wrapping_add_u64(sum, wide(qnames[0]));
-        sum = std::num::wrapping_add_u64(sum, wide(events[0]));
-        i += 1;
-    }
-    sum
-}
-
+// Reads one document so many times, for counting instructions. The crate speed has the loop and says why each job has a program.
 fn main() {
-    let mut doc = [0u8; 65537];
-    let size = cases::load(2, &mut doc);
-    io::print_decimal(STDOUT_FILENO, repeat(&doc[..size], cases::argument(1)));
-    io::write_all(STDOUT_FILENO, b"\n");
+    speed::read();
 }

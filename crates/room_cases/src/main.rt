@@ -1,6 +1,7 @@
 // Runs reading into small tables: each line of standard input is a document in hexadecimal and the lengths of three
 // tables. It is written again, followed by what reading answers and by the rows; `changed` where a number past the rows
 // is no longer what stood there.
+ghost use mathlib.Core.Path.{_≡_};
 ghost use Prim.Native.Nat.{_+_, _≤_, _<_};
 ghost use lib.ListN.{length};
 use libc::STDOUT_FILENO;
@@ -8,20 +9,8 @@ use machine::Answer;
 
 const MARK: u32 = 2779096485;
 
-// Whether a number from `from` on is not the mark.
-fn changed(table: &[u32], from: usize) -> bool {
-    let mut at = from;
-    while at < table.len() {
-        if table[at] != MARK {
-            return true;
-        }
-        at += 1;
-    }
-    false
-}
-
 fn report_change(table: &[u32], from: usize) {
-    if changed(table, from) {
+    if cases::changed(table, from, MARK) {
         io::write_all(STDOUT_FILENO, b"changed\n");
     }
 }
@@ -83,22 +72,15 @@ fn read_into(doc: &[u8], n: usize, q: usize, e: usize) {
     report_change(&events, 4 * least(a.events, 4096));
 }
 
-fn skip_space(line: &[u8], at: usize) -> usize
-    requires { ⌜ at ≤ length (now line) ⌝ }
-    ensures { λ r. ⌜ (at ≤ r) × (r ≤ length (now (line .entry))) ⌝ }
-{
-    if at < line.len() { at + 1 } else { at }
-}
-
 fn case(line: &[u8]) {
     let mut doc = [0u8; 4096];
     let a = cases::word_end(line, 0);
     let size = cases::bytes(&line[..a], &mut doc);
-    let b = skip_space(line, a);
+    let b = cases::after_space(line, a);
     let c = cases::word_end(line, b);
-    let d = skip_space(line, c);
+    let d = cases::after_space(line, c);
     let e = cases::word_end(line, d);
-    let f = skip_space(line, e);
+    let f = cases::after_space(line, e);
     let n = cases::decimal(&line[b..c]);
     let q = cases::decimal(&line[d..e]);
     let v = cases::decimal(&line[f..]);

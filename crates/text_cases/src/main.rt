@@ -1,7 +1,6 @@
 // Runs the vectors of value text: each line of standard input is a token, a payload, the size of a buffer and the expected
 // answer. Each line is written again with the answer that `show` and `part` give, so that the output equals the input.
 ghost use Prim.Native.Nat.{_≤_, _<_};
-ghost use lib.ListN.{length};
 use text::Shown;
 
 // The size of the buffer, and what stands in it before.
@@ -44,17 +43,6 @@ fn put_bytes(bytes: &[u8]) {
     }
 }
 
-// The place after a word and the space that ends it.
-fn after(line: &[u8], end: usize) -> usize
-    requires { ⌜ end ≤ length (now line) ⌝ }
-    ensures { λ r. ⌜ (end ≤ r) × (r ≤ length (now (line .entry))) ⌝ }
-{
-    if end < line.len() {
-        return end + 1;
-    }
-    end
-}
-
 // Writes an answer number, and its place or count.
 fn put_answer(number: u32, count: usize) {
     put_number(number as usize);
@@ -71,18 +59,6 @@ fn written(shown: Shown) -> usize {
         Shown::Short(_) => 0,
         Shown::NoText => 0,
     }
-}
-
-// Whether each byte from a place on is as it was before.
-fn kept(buffer: &[u8], from: usize) -> bool {
-    let mut i = from;
-    while i < buffer.len() {
-        if buffer[i] != PATTERN {
-            return false;
-        }
-        i += 1;
-    }
-    true
 }
 
 // Writes what `show` answered, as a number and its place or count.
@@ -111,7 +87,7 @@ fn put_result<'a>(payload: &'a [u8], buffer: &'a [u8], shown: Shown) {
     put_shown(shown);
     put_bytes(text::part(payload, buffer, shown));
     put_where(shown);
-    if !kept(buffer, written(shown)) {
+    if cases::changed_bytes(buffer, written(shown), PATTERN) {
         put(b" CHANGED");
     }
 }
@@ -135,9 +111,9 @@ fn show_case<'a>(token: u8, payload: &'a [u8], buffer: &'a mut [u8]) {
 // Runs the case of one line.
 fn run_case(line: &[u8]) {
     let token_end = cases::word_end(line, 0);
-    let payload_at = after(line, token_end);
+    let payload_at = cases::after_space(line, token_end);
     let payload_end = cases::word_end(line, payload_at);
-    let size_at = after(line, payload_end);
+    let size_at = cases::after_space(line, payload_end);
     let size_end = cases::word_end(line, size_at);
     let mut token = [0u8; 1];
     cases::bytes(&line[..token_end], &mut token);

@@ -6,26 +6,21 @@ ghost use lib.ListN.{length};
 use libc::STDOUT_FILENO;
 use value::Field;
 
-fn say(word: &[u8], number: usize) {
-    io::write_all(STDOUT_FILENO, word);
-    io::print_decimal(STDOUT_FILENO, number as u64);
-}
-
 fn answer(table: &[u16; 256], doc: &[u8])
     requires { ⌜ Listed (now table) × (0 < length (now doc)) ⌝ }
 {
     match value::read(token::shape_at(table, doc[0]), doc, 0) {
         Field::Payload { place, size } => {
-            say(b" -> payload at ", place);
-            say(b" size ", size);
+            cases::say(b" -> payload at ", place);
+            cases::say(b" size ", size);
         }
         Field::Reference { number, next } => {
-            say(b" -> qname ", number.0);
-            say(b" next ", next);
+            cases::say(b" -> qname ", number.0);
+            cases::say(b" next ", next);
         }
         Field::Refused { number, place } => {
-            say(b" -> refused ", number as usize);
-            say(b" at ", place);
+            cases::say(b" -> refused ", number as usize);
+            cases::say(b" at ", place);
         }
     }
 }

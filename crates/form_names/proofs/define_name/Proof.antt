@@ -11,10 +11,23 @@ returns-2 : tie.Need-returns-2
 returns-2 c = let a = c .before .before .before .before .before .before .args in none-known (a .doc .now) (a .names .now) (a .slots .now) (a .base) (a .class) (c .if2 .taken)
 
 put-text-requires : tie.Need-put-text-requires
-put-text-requires c κs = let a = c .before .before .before .before .before .before .before .before .before .before .before .before .before .before .before .args in let p = c .before .before .before .before .before .before .before .before .before .before .before .before .before .before .before .pre in text-asks (a .doc .now) (a .names .now) (a .slots .now) (a .base) (a .class) (c .before .before .before .before .before .before .before .before .before .before .before .if1 .left) (c .before .before .before .before .before .before .before .before .before .if2 .left) (c .before .before .cell .ensures .0) (c .before .cell2 .ensures .0) (a .out .now) _ (p .0) (p .1) (p .4) (c .before .before .before .before .before .before .before .put .ensures) (p .5)
+put-text-requires c κs =
+    let at-put = c .before .before .before .before .before .before .before in
+    let at-if2 = at-put .before .before in
+    let at-if1 = at-if2 .before .before in
+    let entry = at-if1 .before .before .before .before in
+    let a = entry .args in let p = entry .pre in text-asks (a .doc .now) (a .names .now) (a .slots .now) (a .base) (a .class) (at-if1 .if1 .left) (at-if2 .if2 .left) (c .before .before .cell .ensures .0) (c .before .cell2 .ensures .0) (a .out .now) _ (p .0) (p .1) (p .4) (at-put .put .ensures) (p .5)
 
 returns-3 : tie.Need-returns-3
-returns-3 c = let a = c .before .before .before .before .before .before .before .before .before .before .before .before .before .before .before .before .before .before .args in text-due (a .doc .now) (a .names .now) (a .slots .now) (a .base) (a .class) (c .before .before .before .before .before .before .before .before .before .before .before .before .before .before .if1 .left) (c .before .before .before .before .before .before .before .before .before .before .before .before .if2 .left) (c .before .before .before .before .before .cell .ensures .0) (c .before .before .before .before .cell2 .ensures .0) (c .before .before .before .before .before .before .before .before .before .before .put .ensures) (c .before .before .put-text .ensures) (c .before .before .before .before .before .before .mark .ensures)
+returns-3 c =
+    let at-cell2 = c .before .before .before .before in
+    let at-cell = at-cell2 .before in
+    let at-mark = at-cell .before in
+    let at-put = at-mark .before .before .before .before in
+    let at-if2 = at-put .before .before in
+    let at-if1 = at-if2 .before .before in
+    let entry = at-if1 .before .before .before .before in
+    let a = entry .args in text-due (a .doc .now) (a .names .now) (a .slots .now) (a .base) (a .class) (at-if1 .if1 .left) (at-if2 .if2 .left) (at-cell .cell .ensures .0) (at-cell2 .cell2 .ensures .0) (at-put .put .ensures) (c .before .before .put-text .ensures) (at-mark .mark .ensures)
 
 pub define-name-spec : {M : Type 1} → statement M
 define-name-spec =

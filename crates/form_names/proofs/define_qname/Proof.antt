@@ -16,10 +16,18 @@ mark-requires : tie.Need-mark-requires
 mark-requires c κs = let p = c .before .before .before .before .before .before .before .before .before .before .before .pre in let x = p .3 in let y = p .4 in (omega arith, low-more (omega arith) (p .6))
 
 put-qname-requires : tie.Need-put-qname-requires
-put-qname-requires c κs = let a = c .before .before .before .before .before .before .before .before .before .before .before .before .before .before .args in let p = c .before .before .before .before .before .before .before .before .before .before .before .before .before .before .pre in let x = c .before .before .before .before .before .before .define-texts .ensures in numbers-asks (a .doc .now) (a .names .now) (a .slots .now) (a .rows) (a .base) (a .q) (p .0) (p .1) (p .4) (p .5) (p .7) (x .0) (x .1)
+put-qname-requires c κs =
+    let at-define-texts = c .before .before .before .before .before .before in
+    let entry = at-define-texts .before .before .before .before .before .before .before .before in
+    let a = entry .args in let p = entry .pre in let x = at-define-texts .define-texts .ensures in numbers-asks (a .doc .now) (a .names .now) (a .slots .now) (a .rows) (a .base) (a .q) (p .0) (p .1) (p .4) (p .5) (p .7) (x .0) (x .1)
 
 returns-2 : tie.Need-returns-2
-returns-2 c = let a = c .before .before .before .before .before .before .before .before .before .before .before .before .before .before .before .before .before .args in let p = c .before .before .before .before .before .before .before .before .before .before .before .before .before .before .before .before .before .pre in let x = c .before .before .before .before .before .before .before .before .before .define-texts .ensures in qname-new (a .doc .now) (a .names .now) (a .slots .now) (a .qslots .now) (a .base) (a .q) (a .class) (p .2) (c .before .before .before .before .before .before .before .before .before .before .before .before .if1 .left) (x .0) (x .1) (c .before .before .before .before .before .mark .ensures) (c .before .before .put-qname .ensures)
+returns-2 c =
+    let at-mark = c .before .before .before .before .before in
+    let at-define-texts = at-mark .before .before .before .before in
+    let at-if1 = at-define-texts .before .before .before in
+    let entry = at-if1 .before .before .before .before .before in
+    let a = entry .args in let p = entry .pre in let x = at-define-texts .define-texts .ensures in qname-new (a .doc .now) (a .names .now) (a .slots .now) (a .qslots .now) (a .base) (a .q) (a .class) (p .2) (at-if1 .if1 .left) (x .0) (x .1) (at-mark .mark .ensures) (c .before .before .put-qname .ensures)
 
 pub define-qname-spec : {M : Type 1} → statement M
 define-qname-spec =

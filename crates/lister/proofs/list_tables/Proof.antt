@@ -29,10 +29,14 @@ link-requires c κs =
 
 returns : tie.Need-returns
 returns c =
-    let f = c .before .before .before .before .before .before .before .before .before .before .before .before .before .before .before .before .before .before .before .before .before .pre .0 in
-    let b : Bytes (c .before .before .before .before .before .before .before .before .before .before .before .before .before .before .before .before .before .before .before .before .before .args .doc .now) = record { each = λ k. omega (arith, c .before .before .before .before .before .before .before .before .before .before .before .before .before .before .before .before .before .before .before .before .shared-slice-known .given k) } in
-    let n = c .before .before .before .before .before .before .before .before .before .before .before .before .before .name-classes .ensures in
-    too-small (c .before .before .before .before .before .before .before .before .before .before .before .before .before .before .before .before .before .before .before .before .before .args .read) b (renderable f (n .1) (n .0)) (c .before .before .before .before .before .before .before .before .render .ensures) (c .before .link .ensures .0) (c .if1 .taken) refl
+    let at-render = c .before .before .before .before .before .before .before .before in
+    let at-name-classes = at-render .before .before .before .before .before in
+    let at-shared-slice-known = at-name-classes .before .before .before .before .before .before .before in
+    let entry = at-shared-slice-known .before in
+    let f = entry .pre .0 in
+    let b : Bytes (entry .args .doc .now) = record { each = λ k. omega (arith, at-shared-slice-known .shared-slice-known .given k) } in
+    let n = at-name-classes .name-classes .ensures in
+    too-small (entry .args .read) b (renderable f (n .1) (n .0)) (at-render .render .ensures) (c .before .link .ensures .0) (c .if1 .taken) refl
 
 slice-aggregate-write-pairs : tie.Need-slice-aggregate-write-pairs
 slice-aggregate-write-pairs c = sym (c .before .before .before .before .before .before .before .before .before .before .render .ensures .starts-long)
@@ -45,10 +49,16 @@ write-pairs-requires c κs =
 
 returns-2 : tie.Need-returns-2
 returns-2 c =
-    let f = c .before .before .before .before .before .before .before .before .before .before .before .before .before .before .before .before .before .before .before .before .before .before .before .before .before .before .before .before .pre .0 in
-    let b : Bytes (c .before .before .before .before .before .before .before .before .before .before .before .before .before .before .before .before .before .before .before .before .before .before .before .before .before .before .before .before .args .doc .now) = record { each = λ k. omega (arith, c .before .before .before .before .before .before .before .before .before .before .before .before .before .before .before .before .before .before .before .before .before .before .before .before .before .before .before .shared-slice-known .given k) } in
-    let n = c .before .before .before .before .before .before .before .before .before .before .before .before .before .before .before .before .before .before .before .before .name-classes .ensures in
-    written (c .before .before .before .before .before .before .before .before .before .before .before .before .before .before .before .before .before .before .before .before .before .before .before .before .before .before .before .before .args .read) b (renderable f (n .1) (n .0)) (c .before .before .before .before .before .before .before .before .before .before .before .before .before .before .before .render .ensures) (c .before .before .before .before .before .before .before .before .link .ensures .0) (c .before .before .before .before .before .before .before .if1 .left) (c .before .before .write-pairs .ensures) refl
+    let at-if1 = c .before .before .before .before .before .before .before in
+    let at-link = at-if1 .before in
+    let at-render = at-link .before .before .before .before .before .before .before in
+    let at-name-classes = at-render .before .before .before .before .before in
+    let at-shared-slice-known = at-name-classes .before .before .before .before .before .before .before in
+    let entry = at-shared-slice-known .before in
+    let f = entry .pre .0 in
+    let b : Bytes (entry .args .doc .now) = record { each = λ k. omega (arith, at-shared-slice-known .shared-slice-known .given k) } in
+    let n = at-name-classes .name-classes .ensures in
+    written (entry .args .read) b (renderable f (n .1) (n .0)) (at-render .render .ensures) (at-link .link .ensures .0) (at-if1 .if1 .left) (c .before .before .write-pairs .ensures) refl
 
 pub list-tables-spec : {M : Type 1} → statement M
 list-tables-spec =

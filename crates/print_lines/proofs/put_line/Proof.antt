@@ -25,10 +25,13 @@ put-field-requires-2 c κs =
 
 returns : tie.Need-returns
 returns c =
-    let x = c .before .before .before .before .before .before .before .before .before .before .before .before .before .before .before .before in
+    let at-put-field = c .before .before .before .before .before .before in
+    let at-put-word = at-put-field .before .before .before .before in
+    let at-before = at-put-word .before .before .before .before .before in
+    let x = at-before .before in
     line-put (x .args .first .now) (x .args .a) (x .args .second .now) (x .args .b)
-    (c .before .before .before .before .before .before .before .before .before .before .put-word .ensures)
-    (c .before .before .before .before .before .before .put-field .ensures)
+    (at-put-word .put-word .ensures)
+    (at-put-field .put-field .ensures)
     (c .before .before .put-field2 .ensures)
 
 pub put-line-spec : {M : Type 1} → statement M

@@ -16,9 +16,12 @@ put-line-requires c κs =
 
 returns : tie.Need-returns
 returns c =
-    let t = c .before .before .before .before .before .before .before .before .before .before .before .before .before .before in
+    let at-if1 = c .before .before .before .before .before .before .before in
+    let at-list-full = at-if1 .before .before .before in
+    let at-before = at-list-full .before .before .before in
+    let t = at-before .before in
     let p = rw (← t .pre) at (c .before .before .put-line .ensures) in
-    (refusal-printed (c .before .before .before .before .before .before .before .before .before .before .list-full .ensures) (c .before .before .before .before .before .before .before .if1 .taken) p, omega (arith, p .place, t .pre))
+    (refusal-printed (at-list-full .list-full .ensures) (at-if1 .if1 .taken) p, omega (arith, p .place, t .pre))
 
 put-pairs-requires : tie.Need-put-pairs-requires
 put-pairs-requires c κs =
@@ -35,10 +38,14 @@ put-line-requires-2 c κs =
 
 returns-2 : tie.Need-returns-2
 returns-2 c =
-    let f = c .before .before .before .before .before .before .before .before .before .before .before .before .before .before .list-full .ensures in
-    let p = c .before .before .before .before .before .before .before .before .put-pairs .ensures in
+    let at-put-pairs = c .before .before .before .before .before .before .before .before in
+    let at-if1 = at-put-pairs .before .before .before in
+    let at-list-full = at-if1 .before .before .before in
+    let entry = at-list-full .before .before .before .before in
+    let f = at-list-full .list-full .ensures in
+    let p = at-put-pairs .put-pairs .ensures in
     let q = c .before .before .put-line2 .ensures in
-    (pairs-printed f (c .before .before .before .before .before .before .before .before .before .before .before .if1 .left) (length-replicate {A = ℕ} 16384 0) (p .0) q, omega (arith, p .0 .place, q .place, c .before .before .before .before .before .before .before .before .before .before .before .before .before .before .before .before .before .before .pre))
+    (pairs-printed f (at-if1 .if1 .left) (length-replicate {A = ℕ} 16384 0) (p .0) q, omega (arith, p .0 .place, q .place, entry .pre))
 
 pub print-spec : {M : Type 1} → statement M
 print-spec =

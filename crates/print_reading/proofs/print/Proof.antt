@@ -10,16 +10,21 @@ use Rattle.print_reading.proofs.print.Tie as tie
 
 put-rows-requires : tie.Need-put-rows-requires
 put-rows-requires c κs =
-    let h = c .before .before .before .before .before .before .before .read .ensures in
-    let f = rows-held (c .before .before .before .before .before .before .before .before .before .before .before .before .before .args .doc .now) (length-replicate {A = ℕ} 2048 0) (length-replicate {A = ℕ} 3072 0) (length-replicate {A = ℕ} 16384 0) h in
-    (c .before .before .before .before .before .before .before .before .before .before .before .before .before .pre, f .0, f .1, f .2, names-long h, qnames-long h, events-long h)
+    let at-read = c .before .before .before .before .before .before .before in
+    let entry = at-read .before .before .before .before .before .before in
+    let h = at-read .read .ensures in
+    let f = rows-held (entry .args .doc .now) (length-replicate {A = ℕ} 2048 0) (length-replicate {A = ℕ} 3072 0) (length-replicate {A = ℕ} 16384 0) h in
+    (entry .pre, f .0, f .1, f .2, names-long h, qnames-long h, events-long h)
 
 returns : tie.Need-returns
 returns c =
-    let x = c .before .before .before .before .before .before .before .before .before .before .before .before .before .before .before .before .before .before .before .before in
-    let p = c .before .before .before .before .before .before .put-rows .ensures in
+    let at-put-rows = c .before .before .before .before .before .before in
+    let at-read = at-put-rows .before .before .before .before .before .before .before .before in
+    let at-before = at-read .before .before .before .before .before in
+    let x = at-before .before in
+    let p = at-put-rows .put-rows .ensures in
     let q = c .before .before .put-answer .ensures in (
-      all-printed (x .args .doc .now) (length-replicate {A = ℕ} 2048 0) (length-replicate {A = ℕ} 3072 0) (length-replicate {A = ℕ} 16384 0) (c .before .before .before .before .before .before .before .before .before .before .before .before .before .before .read .ensures) (x .pre) (p .0) q,
+      all-printed (x .args .doc .now) (length-replicate {A = ℕ} 2048 0) (length-replicate {A = ℕ} 3072 0) (length-replicate {A = ℕ} 16384 0) (at-read .read .ensures) (x .pre) (p .0) q,
       omega (arith, p .0 .place, q .place),
     )
 

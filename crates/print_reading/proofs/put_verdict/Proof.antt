@@ -32,7 +32,11 @@ put-field-requires-3 c κs =
     (omega (arith, f, h, p .place, x .pre .0), omega (arith, p .place, p .long, x .pre .1))
 
 returns-2 : tie.Need-returns-2
-returns-2 c = let x = c .before .before .before .before .before .before .before .before .before .before .before .before .before .before in verdict-refused (x .args .a) (c .before .before .before .before .before .before .before .before .before .before .before .if1 .left) (c .before .before .before .before .before .before .before .before .put-field2 .ensures) (c .before .before .put-field3 .ensures)
+returns-2 c =
+    let at-put-field2 = c .before .before .before .before .before .before .before .before in
+    let at-if1 = at-put-field2 .before .before .before in
+    let at-before = at-if1 .before .before in
+    let x = at-before .before in verdict-refused (x .args .a) (at-if1 .if1 .left) (at-put-field2 .put-field2 .ensures) (c .before .before .put-field3 .ensures)
 
 pub put-verdict-spec : {M : Type 1} → statement M
 put-verdict-spec =

@@ -49,14 +49,17 @@ loop-less c = omega (arith, c .before .before .before .before .before .before .l
 
 loop-again : tie.Need-loop-again Inv-loop μ-loop
 loop-again c =
-    let x = c .before .before .before .before .before .before .before .before .before .before .before .before .before .before .before in
-    let f = c .before .before .before .before .before .before .before .loop .inv in
+    let at-loop-test = c .before .before .before .before .before .before in
+    let at-loop = at-loop-test .before in
+    let at-before = at-loop .before .before .before .before .before .before .before in
+    let x = at-before .before in
+    let f = at-loop .loop .inv in
     let p = c .before .before .put-field .ensures in
     let n = c .before .before .before .cell .result in
     let l = field-short (0x20 ∷ []) n (c .before .before .before .cell .ensures .1) in
-    let more = c .before .before .before .before .before .before .loop-test .taken in
+    let more = at-loop-test .loop-test .taken in
     rows-next (field (0x20 ∷ []) n) f p
-    (numbers-next (x .args .table .now) (x .args .from) (x .args .count) (c .before .before .before .before .before .before .before .loop .k) n (x .pre .0) (omega (arith, more)) (f .few) (c .before .before .before .cell .ensures .0))
+    (numbers-next (x .args .table .now) (x .args .from) (x .args .count) (at-loop .loop .k) n (x .pre .0) (omega (arith, more)) (f .few) (c .before .before .before .cell .ensures .0))
     (omega (arith, l, p .place, f .roomy, f .few, more))
 
 same-length : tie.Need-same-length Inv-loop μ-loop

@@ -7,10 +7,13 @@ use Rattle.print_rows.proofs.put_rows.Tie as tie
 
 returns : tie.Need-returns
 returns c =
-    let x = c .before .before .before .before .before .before .before .before .before .before .before .before .before .before .before .before .args in
+    let at-put-qnames = c .before .before .before .before .before .before in
+    let at-put-events = at-put-qnames .before .before .before .before in
+    let entry = at-put-events .before .before .before .before .before .before in
+    let x = entry .args in
     let p = c .before .before .put-names .ensures in (
       rows-put (nameRowsIn (x .n) (x .names .now)) (qnameRowsIn (x .q) (x .qnames .now)) (eventRowsIn (x .e) (x .events .now))
-          (c .before .before .before .before .before .before .before .before .before .before .put-events .ensures .0) (c .before .before .before .before .before .before .put-qnames .ensures .0) (p .0),
+          (at-put-events .put-events .ensures .0) (at-put-qnames .put-qnames .ensures .0) (p .0),
       p .1,
     )
 

@@ -44,10 +44,14 @@ add-add-element c = let h = held-here (c .before .before .before .before .before
 
 add-element-requires : tie.Need-add-element-requires Inv-loop μ-loop
 add-element-requires c κs =
-    let l = c .before .before .before .before .before .before .before .loop in
-    let a = c .before .before .before .before .before .before .before .before .before .before .before .before .before .args in
+    let at-common = c .before .before .before .before in
+    let at-common-at = at-common .before .before in
+    let at-loop = at-common-at .before in
+    let entry = at-loop .before .before .before .before .before .before in
+    let l = at-loop .loop in
+    let a = entry .args in
     let h = held-here (l .inv) in
-    let f = common-fine (a .doc .now) (l .v) (a .room) (c .before .before .before .before .before .before .common-at .ensures) (c .before .before .before .before .common .given .1) in
+    let f = common-fine (a .doc .now) (l .v) (a .room) (at-common-at .common-at .ensures) (at-common .common .given .1) in
     omega arith
 
 loop-less-2 : tie.Need-loop-less-2 Inv-loop μ-loop
@@ -74,10 +78,20 @@ turn-requires : tie.Need-turn-requires Inv-loop μ-loop
 turn-requires c κs = (held-here (c .before .before .before .before .before .before .before .before .before .before .before .loop .inv), c .before .before .before .before .before .before .before .step-at .ensures .1)
 
 loop-less-4 : tie.Need-loop-less-4 Inv-loop μ-loop
-loop-less-4 c = let n = nearer (c .before .before .before .before .before .before .before .before .before .before .before .before .before .before .before .before .before .before .loop .inv) (c .before .before .before .before .before .before .before .before .before .before .before .before .before .before .step-at .result) (goes (c .before .before .before .before .before .before .before .before .before .before .before .before .before .before .step-at .result) (c .before .before .before .before .before .before .before .before .before .before .before .before .before .match2 .keys2)) (c .before .before .before .before .before .before .before .before .before .before .before .before .before .before .step-at .ensures .1) (c .before .before .before .before .before .before .turn .ensures) in omega arith
+loop-less-4 c =
+    let at-turn = c .before .before .before .before .before .before in
+    let at-match2 = at-turn .before .before .before .before .before .before .before in
+    let at-step-at = at-match2 .before in
+    let at-loop = at-step-at .before .before .before .before in
+    let n = nearer (at-loop .loop .inv) (at-step-at .step-at .result) (goes (at-step-at .step-at .result) (at-match2 .match2 .keys2)) (at-step-at .step-at .ensures .1) (at-turn .turn .ensures) in omega arith
 
 loop-again-4 : tie.Need-loop-again-4 Inv-loop μ-loop
-loop-again-4 c = going (c .before .before .before .before .before .before .before .before .before .before .before .before .before .before .before .before .before .before .loop .inv) (c .before .before .before .before .before .before .before .before .before .before .before .before .before .before .step-at .result) (c .before .before .before .before .before .before .before .before .before .before .before .before .before .before .step-at .ensures .0) (goes (c .before .before .before .before .before .before .before .before .before .before .before .before .before .before .step-at .result) (c .before .before .before .before .before .before .before .before .before .before .before .before .before .match2 .keys2)) (c .before .before .before .before .before .before .before .before .before .before .before .before .before .before .step-at .ensures .1) (c .before .before .before .before .before .before .turn .ensures)
+loop-again-4 c =
+    let at-turn = c .before .before .before .before .before .before in
+    let at-match2 = at-turn .before .before .before .before .before .before .before in
+    let at-step-at = at-match2 .before in
+    let at-loop = at-step-at .before .before .before .before in
+    going (at-loop .loop .inv) (at-step-at .step-at .result) (at-step-at .step-at .ensures .0) (goes (at-step-at .step-at .result) (at-match2 .match2 .keys2)) (at-step-at .step-at .ensures .1) (at-turn .turn .ensures)
 
 same-length : tie.Need-same-length Inv-loop μ-loop
 same-length c = c .before .before .before .before .before .before .before .before .loop .inv .names-long

@@ -33,8 +33,14 @@ put-one-requires c κs =
 
 returns-3 : tie.Need-returns-3
 returns-3 c =
-    row-as (out-in _ (c .before .before .before .before .before .before .before .before .before .before .before .before .if1 .left) (counted-mark (c .before .before .before .before .before .before .before .before .before .before .before .before .before .before .before .before .args .marks .now) (c .before .before .before .before .before .before .before .before .before .before .before .before .before .before .before .before .args .row) _ refl (closeBy (c .before .before .before .before .before .before .before .before .before .before .before .before .before .before .before .before .args .p .attribute)) (c .before .before .before .before .before .before .if2 .left))) (counted-one (c .before .before .before .before .before .before .before .before .before .before .before .before .before .before .before .before .args .marks .now) (c .before .before .before .before .before .before .before .before .before .before .before .before .before .before .before .before .args .row) _ refl (c .before .before .before .before .before .before .if2 .left)) refl
-    (row-hashed _ _ (c .before .before .before .before .before .before .before .before .before .before .cursor-of .ensures) (hashed-then (c .before .before .before .before .before .before .before .before .before .put-close .ensures) (c .before .before .before .before .put-one .ensures)) _ (c .with-attribute3 .ensures ∙ ap (λ (r : Progress). attributed r 1) (c .before .moved2 .ensures)))
+    let at-put-one = c .before .before .before .before in
+    let at-if2 = at-put-one .before .before in
+    let at-put-close = at-if2 .before .before .before in
+    let at-cursor-of = at-put-close .before in
+    let at-if1 = at-cursor-of .before .before in
+    let entry = at-if1 .before .before .before .before in
+    row-as (out-in _ (at-if1 .if1 .left) (counted-mark (entry .args .marks .now) (entry .args .row) _ refl (closeBy (entry .args .p .attribute)) (at-if2 .if2 .left))) (counted-one (entry .args .marks .now) (entry .args .row) _ refl (at-if2 .if2 .left)) refl
+    (row-hashed _ _ (at-cursor-of .cursor-of .ensures) (hashed-then (at-put-close .put-close .ensures) (at-put-one .put-one .ensures)) _ (c .with-attribute3 .ensures ∙ ap (λ (r : Progress). attributed r 1) (c .before .moved2 .ensures)))
 
 pub put-attribute-spec : {M : Type 1} → statement M
 put-attribute-spec =

@@ -38,23 +38,40 @@ cell-requires-2 c κs = omega (arith, c .before .loop-test .taken, c .before .be
 
 put-row-requires : tie.Need-put-row-requires Inv-loop μ-loop
 put-row-requires c κs =
-    let s = c .before .before .before .before .before .before .before .before .before .before .before .before .before .before .before .before .before in
+    let at-cell2 = c .before .before .before .before .before in
+    let at-cell = at-cell2 .before in
+    let at-loop-test = at-cell .before in
+    let at-loop = at-loop-test .before in
+    let at-fill = at-loop .before in
+    let at-alphabet = at-fill .before .before in
+    let at-before = at-alphabet .before .before .before .before .before in
+    let s = at-before .before in
     let d = s .pre .0 in
-    let w = c .before .before .before .before .before .before .before .before .loop .inv in
-    let t = c .before .before .before .before .before .before .before .loop-test .taken in
-    let m = c .before .before .before .before .before .before .before .before .before .fill .ensures in
-    (c .before .before .before .before .before .before .before .before .before .before .before .alphabet .ensures, row-fits d w m t _ _ (c .before .before .before .before .before .before .cell .ensures .0) (c .before .before .before .before .before .cell2 .ensures .0), row-room d w m t _ _ (c .before .before .before .before .before .before .cell .ensures .0) (c .before .before .before .before .before .cell2 .ensures .0) (s .pre .1), omega (arith, t, d .efew), omega (arith, t, d .elong), omega (arith, n-small d w), omega (arith, w .shallow, t, d .efew), starts-long d w ∙ s .pre .2, hashes-long d w ∙ s .pre .3)
+    let w = at-loop .loop .inv in
+    let t = at-loop-test .loop-test .taken in
+    let m = at-fill .fill .ensures in
+    (at-alphabet .alphabet .ensures, row-fits d w m t _ _ (at-cell .cell .ensures .0) (at-cell2 .cell2 .ensures .0), row-room d w m t _ _ (at-cell .cell .ensures .0) (at-cell2 .cell2 .ensures .0) (s .pre .1), omega (arith, t, d .efew), omega (arith, t, d .elong), omega (arith, n-small d w), omega (arith, w .shallow, t, d .efew), starts-long d w ∙ s .pre .2, hashes-long d w ∙ s .pre .3)
 
 add-k : tie.Need-add-k Inv-loop μ-loop
-add-k c = omega (arith, c .before .before .before .before .before .before .before .before .before .before .loop-test .taken, c .before .before .before .before .before .before .before .before .before .before .before .before .before .before .before .before .before .before .before .before .pre .0 .efew)
+add-k c =
+    let at-loop-test = c .before .before .before .before .before .before .before .before .before .before in
+    let entry = at-loop-test .before .before .before .before .before .before .before .before .before .before in
+    omega (arith, at-loop-test .loop-test .taken, entry .pre .0 .efew)
 
 loop-less : tie.Need-loop-less Inv-loop μ-loop
 loop-less c = omega (arith, c .before .before .before .before .before .before .before .before .before .before .loop-test .taken)
 
 loop-again : tie.Need-loop-again Inv-loop μ-loop
 loop-again c =
-    rows-turn (c .before .before .before .before .before .before .before .before .before .before .before .before .before .before .before .before .before .before .before .before .pre .0) (c .before .before .before .before .before .before .before .before .before .before .before .loop .inv) (c .before .before .before .before .before .before .before .before .before .before .before .before .fill .ensures) (c .before .before .before .before .before .before .before .before .before .before .loop-test .taken) _ _ (c .before .before .before .before .before .before .before .before .before .cell .ensures .0) (c .before .before .before .before .before .before .before .before .cell2 .ensures .0)
-    (record { each = λ i. omega (arith, c .before .before .before .before .before .before .before .before .before .before .before .before .before .before .before .before .before .before .before .shared-slice-known .given i) }) (c .before .before .put-row .ensures)
+    let at-cell2 = c .before .before .before .before .before .before .before .before in
+    let at-cell = at-cell2 .before in
+    let at-loop-test = at-cell .before in
+    let at-loop = at-loop-test .before in
+    let at-fill = at-loop .before in
+    let at-shared-slice-known = at-fill .before .before .before .before .before .before .before in
+    let entry = at-shared-slice-known .before in
+    rows-turn (entry .pre .0) (at-loop .loop .inv) (at-fill .fill .ensures) (at-loop-test .loop-test .taken) _ _ (at-cell .cell .ensures .0) (at-cell2 .cell2 .ensures .0)
+    (record { each = λ i. omega (arith, at-shared-slice-known .shared-slice-known .given i) }) (c .before .before .put-row .ensures)
 
 mul-starts : tie.Need-mul-starts Inv-loop μ-loop
 mul-starts c = omega (arith, n-small (c .before .before .before .before .before .before .before .before .before .before .pre .0) (c .before .loop .inv))

@@ -23,7 +23,12 @@ walk-requires-2 : tie.Need-walk-requires-2
 walk-requires-2 c κs = let p = c .before .before .before .before .before .before .before .before .before .before .before .pre in (p .0, p .1, p .2, inr (let e = c .before .before .before .before .walk .ensures .past in let l = c .before .if2 .left in omega arith))
 
 returns-3 : tie.Need-returns-3
-returns-3 c = let a = c .before .before .before .before .before .before .before .before .before .before .before .before .before .before .args in form-written (canonical (a .read .version) (eventsIn (tables (a .doc .now) (a .names .now) (a .qnames .now) (a .classes .now) (a .qclasses .now)) (a .events .now) (a .read .names) (a .read .qnames) (a .read .events))) (a .read .place) (a .out .now) (c .before .before .before .before .before .before .before .walk .ensures .past) (c .before .before .before .before .before .if1 .left) (c .before .before .before .before .if2 .left) (c .before .before .walk2 .ensures)
+returns-3 c =
+    let at-if2 = c .before .before .before .before in
+    let at-if1 = at-if2 .before in
+    let at-walk = at-if1 .before .before in
+    let entry = at-walk .before .before .before .before .before .before .before in
+    let a = entry .args in form-written (canonical (a .read .version) (eventsIn (tables (a .doc .now) (a .names .now) (a .qnames .now) (a .classes .now) (a .qclasses .now)) (a .events .now) (a .read .names) (a .read .qnames) (a .read .events))) (a .read .place) (a .out .now) (at-walk .walk .ensures .past) (at-if1 .if1 .left) (at-if2 .if2 .left) (c .before .before .walk2 .ensures)
 
 pub write-form-spec : {M : Type 1} → statement M
 write-form-spec =

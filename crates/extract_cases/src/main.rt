@@ -1,0 +1,84 @@
+// Runs reading, rewriting and listing on documents. An argument names a file with one case to a line: a name, a space, and
+// the document's bytes in hexadecimal. For each case a line with its name is written, then what the reading program writes,
+// then what rewriting gives (forms.rt) and what listing gives (pairs.rt).
+mod forms;
+mod pairs;
+
+ghost use mathlib.Core.Path.{_≡_};
+ghost use lib.ListN.{length};
+use libc::STDOUT_FILENO;
+
+// The text of one file, and one byte more, so that a longer file is noticed.
+const FILE_ROOM: usize = 1048577;
+
+// What `print_reading::print` needs.
+const REPORT_ROOM: usize = 239771;
+
+// Writes what the reading program writes.
+fn write_reading(doc: &[u8]) {
+    let mut text = [0u8; REPORT_ROOM];
+    let from = print_reading::print(doc, &mut text);
+    io::write_all(STDOUT_FILENO, &text[from..]);
+}
+
+// The three jobs on one document.
+fn run_jobs(doc: &[u8]) {
+    write_reading(doc);
+    forms::run(doc);
+    pairs::run(doc);
+}
+
+// The case of one line. Digits that do not all become bytes are no document, and are said to be none.
+fn run_case(line: &[u8]) {
+    let end = cases::word_end(line, 0);
+    let from = cases::after_space(line, end);
+    let mut doc = [0u8; cases::DOCUMENT];
+    let size = cases::bytes(&line[from..], &mut doc);
+    io::write_all(STDOUT_FILENO, &line[..end]);
+    io::write_all(STDOUT_FILENO, b"\n");
+    if line.len() - from != 2 * size {
+        io::write_all(STDOUT_FILENO, b"not hexadecimal, or over 65,537 bytes\n");
+        return;
+    }
+    run_jobs(&doc[..size]);
+}
+
+// The cases of a text, line by line.
+fn run_lines(text: &[u8]) {
+    let mut at = 0;
+    while at < text.len() {
+        let end = cases::line_end(text, at);
+        run_case(&text[at..end]);
+        at = end + 1;
+    }
+}
+
+// Zeros for the text of a file. The `ensures` gives only the length, so that no proof computes with a list so long.
+fn file_buffer() -> [u8; FILE_ROOM]
+    ensures { λ r. ⌜ 1048577 ≡ length r ⌝ }
+{
+    [0; FILE_ROOM]
+}
+
+// The cases of the file that an argument names; false where the file has no room, as a part of it would look like the whole.
+fn run_file(i: usize) -> bool {
+    let mut text = file_buffer();
+    let size = cases::load(i, &mut text);
+    if size == FILE_ROOM {
+        io::write_all(STDOUT_FILENO, b"a file of cases has over 1,048,576 bytes\n");
+        return false;
+    }
+    run_lines(&text[..size]);
+    true
+}
+
+fn main() {
+    let count = os::arg_count();
+    let mut i = 1;
+    while i < count {
+        if !run_file(i) {
+            return;
+        }
+        i += 1;
+    }
+}
