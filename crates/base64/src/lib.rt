@@ -151,5 +151,5 @@ pub fn base64_unit(t: &[u8; 64], p: &[u8], k: usize) -> u16
     requires { ⌜ Alphabet (now t) × (k < (length (now p) + 2) / 3 * 4) × (length (now p) ≤ 65536) ⌝ }
     ensures { λ r. ⌜ r ≡ getD (base64 (now (p .entry))) k 0 ⌝ }
 {
-    slices::wide(base64_char(t, p, k))
+    slices::wide16(base64_char(t, p, k))
 }

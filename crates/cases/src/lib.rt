@@ -6,11 +6,11 @@ ghost use lib.ListN.{length};
 ghost use Rattle.io.specs.Counts.{Counts};
 
 // The numbers in the three tables of reading at their full size.
-pub const NAMES: usize = 2048;
+pub const NAMES: usize = token::NAME_TABLE;
 
-pub const QNAMES: usize = 3072;
+pub const QNAMES: usize = token::QNAME_TABLE;
 
-pub const EVENTS: usize = 16384;
+pub const EVENTS: usize = token::EVENT_TABLE;
 
 // The bytes of the largest document, and one more, so that a document over the limit is noticed.
 pub const DOCUMENT: usize = 65537;

@@ -6,7 +6,7 @@ use native.Mathlib.Omega.{arith}
 use lib.Dec.{lit<, lit≤}
 use Rattle.chunks.specs.declared.Chunks.{Chunks}
 use Rattle.chunks.specs.declared.Limbs.{Limbs}
-use Rattle.chunks.specs.Chunks.{valueOf, Chunked, limbsValue, LimbsFit, Divides}
+use Rattle.chunks.specs.Chunks.{chunksValue, Chunked, limbsValue, LimbsFit, Divides}
 
 -- ---- one limb more
 
@@ -80,13 +80,13 @@ rests s t u v q = record { low = s + 1000000000 * t; mid = u + 1000000000 * v; h
 
 pub chunks : {l q₁ q₂ q₃ q₄ : Limbs} {s t u v : ℕ} → LimbsFit l
     → Divides l q₁ s → Divides q₁ q₂ t → Divides q₂ q₃ u → Divides q₃ q₄ v
-    → (valueOf (rests s t u v q₄) ≡ limbsValue l) × Chunked (rests s t u v q₄) × (valueOf (rests s t u v q₄) < 10 ^ 39)
+    → (chunksValue (rests s t u v q₄) ≡ limbsValue l) × Chunked (rests s t u v q₄) × (chunksValue (rests s t u v q₄) < 10 ^ 39)
 chunks {l} {q₁} {q₂} {q₃} {q₄} {s} {t} {u} {v} f a b c d =
     let last : limbsValue q₄ ≡ limbsValue l / 1000000000 / 1000000000 / 1000000000 / 1000000000 =
     rw (d .quotient-is, c .quotient-is, b .quotient-is, a .quotient-is) in
     let few = over-36-digits (limbsValue l) (limbs-below l f) in
     let only = only-limb (q₄ .a) (q₄ .b + 4294967296 * (q₄ .c + 4294967296 * q₄ .d)) last few in
-    let same : valueOf (rests s t u v q₄) ≡ limbsValue l =
+    let same : chunksValue (rests s t u v q₄) ≡ limbsValue l =
     joined s t u v (q₄ .a)
     (back (a .quotient-is) (a .rest-is))
     (back (b .quotient-is) (b .rest-is))

@@ -1,4 +1,4 @@
--- What the code's numbers stand for, and what stands in the 82 bytes (41 units) in which it makes text.
+-- Serves the code. What the code's numbers stand for: chunks of 18 decimal digits, and limbs of 32 bits.
 use Prim.Native.Nat.{ℕ, _+_, _*_, _/_, _%_, _^_, _≤_, _<_}
 use mathlib.Core.Path.{_≡_}
 use mathlib.Core.Bool.{Bool, _||_}
@@ -11,8 +11,8 @@ unfoldable pub wordSize : ℕ → Bool
 wordSize n = eqb n 1 || eqb n 2 || eqb n 4 || eqb n 8
 
 -- the number: its last `left` digits are `low`, the 18 above them `mid`, all above those `high`
-abbrev pub valueOf : Chunks → ℕ
-valueOf n = n .low + 10 ^ n .left * (n .mid + 10 ^ 18 * n .high)
+abbrev pub chunksValue : Chunks → ℕ
+chunksValue n = n .low + 10 ^ n .left * (n .mid + 10 ^ 18 * n .high)
 
 -- no chunk has more digits than its place holds, and at least one digit is left in the lowest
 pub record Chunked (n : Chunks) : Type 0 where

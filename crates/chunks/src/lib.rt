@@ -5,7 +5,7 @@ ghost use lib.ListN.{length, take, drop};
 ghost use lib.Seq.{slice};
 ghost use mathlib.Core.Bool.{true};
 ghost use Rattle.sequences.specs.Lists.{part, little};
-ghost use Rattle.chunks.specs.Chunks.{wordSize, valueOf, Chunked, limbsValue, LimbsFit, Divides};
+ghost use Rattle.chunks.specs.Chunks.{wordSize, chunksValue, Chunked, limbsValue, LimbsFit, Divides};
 
 // A number: `low` has its last `left` digits, `mid` the 18 above them, `high` the rest.
 pub struct Chunks {
@@ -43,26 +43,22 @@ pub fn little_at(p: &[u8], from: usize, to: usize) -> u64
     v
 }
 
-// A byte as a number of 64 bits.
-fn wide(b: u8) -> u64
-    ensures { λ r. ⌜ (r ≡ b) × (r < 256) ⌝ }
-{
-    b as u64
-}
-
 // The numbers of two and of four bytes, each one sum of products: the compiler makes one load of it.
 fn two(p: &[u8], at: usize) -> u64
     requires { ⌜ at + 2 ≤ length (now p) ⌝ }
     ensures { λ r. ⌜ (r ≡ little (part (now (p .entry)) at 2)) × (r < 65536) ⌝ }
 {
-    wide(p[at]) + 256 * wide(p[at + 1])
+    slices::wide64(p[at]) + 256 * slices::wide64(p[at + 1])
 }
 
 fn four(p: &[u8], at: usize) -> u64
     requires { ⌜ at + 4 ≤ length (now p) ⌝ }
     ensures { λ r. ⌜ (r ≡ little (part (now (p .entry)) at 4)) × (r < 4294967296) ⌝ }
 {
-    wide(p[at]) + 256 * wide(p[at + 1]) + 65536 * wide(p[at + 2]) + 16777216 * wide(p[at + 3])
+    slices::wide64(p[at])
+        + 256 * slices::wide64(p[at + 1])
+        + 65536 * slices::wide64(p[at + 2])
+        + 16777216 * slices::wide64(p[at + 3])
 }
 
 // The number of 1, 2, 4 or 8 bytes, the least significant first.
@@ -71,7 +67,7 @@ pub fn word_of(p: &[u8]) -> u64
     ensures { λ r. ⌜ (r ≡ little (now (p .entry))) × (r < 256 ^ length (now (p .entry))) ⌝ }
 {
     match p.len() {
-        1 => wide(p[0]),
+        1 => slices::wide64(p[0]),
         2 => two(p, 0),
         4 => four(p, 0),
         _ => four(p, 0) + 4294967296 * four(p, 4),
@@ -80,7 +76,7 @@ pub fn word_of(p: &[u8]) -> u64
 
 // The chunks of a number of 64 bits. Most have at most 18 digits, and then no division is needed.
 pub fn of_word(n: u64) -> Chunks
-    ensures { λ r. ⌜ (valueOf r ≡ n) × Chunked r ⌝ }
+    ensures { λ r. ⌜ (chunksValue r ≡ n) × Chunked r ⌝ }
 {
     if n < 1000000000000000000 {
         return Chunks {
@@ -142,7 +138,7 @@ fn divide(l: Limbs) -> Divided
 // The chunks of a number of 128 bits: two divisions give the 18 digits of a chunk.
 fn of_limbs(l: Limbs) -> Chunks
     requires { ⌜ LimbsFit l ⌝ }
-    ensures { λ r. ⌜ (valueOf r ≡ limbsValue l) × Chunked r × (valueOf r < 10 ^ 39) ⌝ }
+    ensures { λ r. ⌜ (chunksValue r ≡ limbsValue l) × Chunked r × (chunksValue r < 10 ^ 39) ⌝ }
 {
     let s = divide(l);
     let t = divide(s.quotient);
@@ -159,7 +155,7 @@ fn of_limbs(l: Limbs) -> Chunks
 // The chunks of the number of the bytes of p from `from` on: 4, 8, 12 or 16 of them, the least significant first.
 pub fn of_bytes(p: &[u8], from: usize) -> Chunks
     requires { ⌜ (from + 4 ≤ length (now p)) × (length (now p) ≤ from + 16) × ((length (now p) - from) % 4 ≡ 0) ⌝ }
-    ensures { λ r. ⌜ (valueOf r ≡ little (drop from (now (p .entry)))) × Chunked r × (valueOf r < 10 ^ 39) ⌝ }
+    ensures { λ r. ⌜ (chunksValue r ≡ little (drop from (now (p .entry)))) × Chunked r × (chunksValue r < 10 ^ 39) ⌝ }
 {
     of_limbs(limbs_from(p, from))
 }

@@ -14,7 +14,7 @@ use borrow.Author.Count.{below-none, below-more}
 use borrow.Author.Tests.{ltb-true, ltb-false, eqb-true, eqb-false}
 use Rattle.sequences.proofs.Tests.{cond-if}
 use Rattle.classes.specs.Search.{Last, Chained}
-use Rattle.classes.proofs.Filled.{Filled}
+use Rattle.classes.proofs.FirstValues.{FirstValues}
 
 -- values that are equal on the rows before r have the same last row
 pub last-as : {A : Type 0} {m n : ℕ → A} {a b : A} {r j : ℕ} → ((k : ℕ) → k < r → m k ≡ n k) → a ≡ b → Last m a r j → Last n b r j
@@ -78,7 +78,7 @@ module _ {A : Type 0} (m : ℕ → A) (f : A → ℕ) (a : A) (r : ℕ) where
       never l = omega arith
 
 -- the class of row r, from an earlier row with its value where there is one
-pub class-chosen : {A : Type 0} {m : ℕ → A} {f : ℕ → ℕ} {r : ℕ} {classes : List ℕ} (j own c : ℕ) → Last m (m r) r j → Filled f r classes
+pub class-chosen : {A : Type 0} {m : ℕ → A} {f : ℕ → ℕ} {r : ℕ} {classes : List ℕ} (j own c : ℕ) → Last m (m r) r j → FirstValues f r classes
     → ((k : ℕ) → k < r → m k ≡ m r → f k ≡ f r) → (((k : ℕ) → k < r → m k ≡ m r → ⊥) → own ≡ f r)
     → c ≡ cond (ltb j 1024) (getD classes j 0) own → c ≡ f r
 class-chosen {m = m} {f} {r} {classes} j own c l x same alone e =

@@ -7,12 +7,13 @@ use mathlib.Core.Option.{some}
 use mathlib.Core.List.{List, [], _∷_, map}
 use native.Mathlib.Omega.{arith}
 use lib.ListN.{length, getD, getElem?, length-map}
+use Rattle.sequences.specs.Lists.{same}
 use Rattle.machine.specs.Rows.{NameRow, QnameRow}
 use Rattle.machine.specs.Events.{nameText}
-use Rattle.form.specs.Places.{Triple, sameText, sameTriple, place, numberOf, qnumberOf}
+use Rattle.machine.proofs.Tables.{at-inside, at-getD, at-some, at-map}
+use Rattle.form.specs.Places.{Triple, sameTriple, place, numberOf, qnumberOf}
 use Rattle.form.proofs.Places.{Tells, tells-text, tells-triple, place-at, place-found}
 use Rattle.classes.specs.Classes.{rowText, textsOf, nameClasses, tripleOf, triplesOf, qnameClasses}
-use Rattle.classes.proofs.Tables.{at-inside, at-getD, at-some, at-map}
 
 -- a test of equality is false of elements that differ
 pub apart : {A : Type 0} (same : A → A → Bool) → Tells same → (a b : A) → (a ≡ b → ⊥) → same a b ≡ false
@@ -49,9 +50,9 @@ place-own {A} same tells l m r at n = place-is same l (m r) r (at r (omega arith
 
 -- a text that has a class: the empty one, or one of the list
 abbrev pub Known : List (List ℕ) → List ℕ → Type 0
-Known T t = (t ≡ []) ⊎ (place sameText T t < length T)
+Known T t = (t ≡ []) ⊎ (place same T t < length T)
 
-pub number-some : (T : List (List ℕ)) (t : List ℕ) → 0 < length t → numberOf T t ≡ suc (place sameText T t)
+pub number-some : (T : List (List ℕ)) (t : List ℕ) → 0 < length t → numberOf T t ≡ suc (place same T t)
 unfolding numberOf
 number-some T [] h = absurd (let q : ⊥ = omega arith in q)
 number-some T (b ∷ t) h = refl
@@ -74,9 +75,9 @@ same-class T (x ∷ s) [] i j e = absurd (let q : ⊥ = omega arith in q)
 same-class T (x ∷ s) (y ∷ t) (inl i) j e = cc
 same-class T (x ∷ s) (y ∷ t) (inr i) (inl j) e = cc
 same-class T (x ∷ s) (y ∷ t) (inr i) (inr j) e =
-    let p : place sameText T (x ∷ s) ≡ place sameText T (y ∷ t) = omega arith in
-    let a = place-at sameText tells-text T (x ∷ s) i in
-    let b = place-at sameText tells-text T (y ∷ t) j in
+    let p : place same T (x ∷ s) ≡ place same T (y ∷ t) = omega arith in
+    let a = place-at same tells-text T (x ∷ s) i in
+    let b = place-at same tells-text T (y ∷ t) j in
     let z : some (x ∷ s) ≡ some (y ∷ t) = sym a ∙ ap (getElem? T) p ∙ b in
     cc
 
@@ -115,9 +116,9 @@ module _ (doc : List ℕ) (rows : List NameRow) where
   unfolding numberOf nameText
   class-of-text k [] e = (omega arith, refl, inl refl)
   class-of-text k (b ∷ t) e =
-      let f = place-found sameText tells-text (textsOf doc rows) k e in
-      let h : place sameText (textsOf doc rows) (b ∷ t) < length (textsOf doc rows) = omega (arith, f .0, f .1) in
-      (omega (arith, f .0), row-of-text (place sameText (textsOf doc rows) (b ∷ t)) (place-at sameText tells-text (textsOf doc rows) (b ∷ t) h), inr h)
+      let f = place-found same tells-text (textsOf doc rows) k e in
+      let h : place same (textsOf doc rows) (b ∷ t) < length (textsOf doc rows) = omega (arith, f .0, f .1) in
+      (omega (arith, f .0), row-of-text (place same (textsOf doc rows) (b ∷ t)) (place-at same tells-text (textsOf doc rows) (b ∷ t) h), inr h)
 
   -- for each row number, 0 too: the class is a row number not after it, of a row with the same text
   pub class-text : (x : ℕ) → x ≤ length rows

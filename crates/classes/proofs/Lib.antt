@@ -1,5 +1,4 @@
-pub mod Tables
 pub mod Classes
 pub mod Keys
-pub mod Filled
+pub mod FirstValues
 pub mod Chain

@@ -1,5 +1,5 @@
--- Rows with equal texts have one class: the number of the first row with that text, and 0 for the empty text. So texts are
--- compared once for each table, and classes afterwards.
+-- Serves the code. Rows with equal texts have one class: the number of the first row with that text, and 0 for the empty text.
+-- So texts are compared once for each table, and classes afterwards.
 use Prim.Native.Nat.{ℕ, _+_, _*_, _%_}
 use mathlib.Core.List.{List, [], _∷_, map}
 use Rattle.sequences.specs.Lists.{part}
@@ -30,9 +30,9 @@ unfoldable pub qnameClasses : List ℕ → List NameRow → List QnameRow → Li
 qnameClasses doc names rows = map (qnumberOf (triplesOf doc names rows)) (triplesOf doc names rows)
 
 -- a hash of some bytes, folded from the left: unequal hashes mean unequal texts
-abbrev pub hashFrom : ℕ → List ℕ → ℕ
-hashFrom h [] = h
-hashFrom h (b ∷ l) = hashFrom ((h * 31 + b) % 4294967296) l
+abbrev pub textHashFrom : ℕ → List ℕ → ℕ
+textHashFrom h [] = h
+textHashFrom h (b ∷ l) = textHashFrom ((h * 31 + b) % 4294967296) l
 
-abbrev pub hashOf : List ℕ → ℕ
-hashOf l = hashFrom 0 l
+abbrev pub textHash : List ℕ → ℕ
+textHash l = textHashFrom 0 l

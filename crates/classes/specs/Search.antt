@@ -1,29 +1,23 @@
--- What the functions of the search hand to each other: numbers of a table, what a row refers to, slots and the chains of rows
--- with equal slots, and keys of qnames.
+-- Serves the code. What the functions of the search hand to each other: numbers of a table, what a row refers to, slots and the
+-- chains of rows with equal slots, and keys of qnames.
 use Prim.Native.Nat.{ℕ, zero, suc, _+_, _*_, _%_, _≤_, _<_}
 use mathlib.Core.Path.{_≡_}
 use mathlib.Core.List.{List}
-use lib.ListN.{length, getD}
+use lib.ListN.{getD}
 use Rattle.machine.specs.Rows.{NameRow, nameRow}
-use Rattle.classes.specs.Classes.{rowText, hashOf}
+use Rattle.classes.specs.Classes.{rowText, textHash}
+use Rattle.token.specs.Answers.{nameWidth, qnameWidth}
 
 -- row k of a table of names, from 0, and its text
 abbrev pub nameAt : List ℕ → ℕ → NameRow
-nameAt l k = nameRow (getD l (2 * k) 0) (getD l (2 * k + 1) 0)
+nameAt l k = nameRow (getD l (nameWidth * k) 0) (getD l (nameWidth * k + 1) 0)
 
-abbrev pub textOf : List ℕ → List ℕ → ℕ → List ℕ
-textOf doc names k = rowText doc (nameAt names k)
-
--- a table of at least n names that is searched: their rows, and each text inside the document
-pub record NameTable (doc names : List ℕ) (n : ℕ) : Type 0 where
-  pub few : n ≤ 1024
-  pub long : 2 * n ≤ length names
-  pub short : length doc ≤ 65536
-  pub inside : (k : ℕ) → k < n → getD names (2 * k) 0 + 2 * getD names (2 * k + 1) 0 ≤ length doc
+abbrev pub rowTextAt : List ℕ → List ℕ → ℕ → List ℕ
+rowTextAt doc names k = rowText doc (nameAt names k)
 
 -- the slot of a text
 abbrev pub slotOf : List ℕ → ℕ
-slotOf t = hashOf t % 2039
+slotOf t = textHash t % 2039
 
 -- j is the last row before row r at which m is a, or 1,024 where there is none
 pub record Last {A : Type 0} (m : ℕ → A) (a : A) (r j : ℕ) : Type 0 where
@@ -53,4 +47,4 @@ pub record Keyable (classes : List ℕ) (x : ℕ) : Type 0 where
 -- the key of row k of qnames, from 0
 unfoldable pub keyAt : List ℕ → List ℕ → ℕ → ℕ
 keyAt qnames classes k =
-    keyOf (classAt classes (getD qnames (3 * k) 0)) (classAt classes (getD qnames (3 * k + 1) 0)) (classAt classes (getD qnames (3 * k + 2) 0))
+    keyOf (classAt classes (getD qnames (qnameWidth * k) 0)) (classAt classes (getD qnames (qnameWidth * k + 1) 0)) (classAt classes (getD qnames (qnameWidth * k + 2) 0))

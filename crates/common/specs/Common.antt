@@ -1,4 +1,4 @@
--- The commonest tokens, found by a short way: what each is a name for among the steps.
+-- Serves the code. The commonest tokens, found by a short way: what each is a name for among the steps.
 use Prim.Native.Nat.{ℕ, _+_, _≤_, _<_}
 use mathlib.Core.List.{List}
 use lib.ListN.{length, getD}

@@ -2,6 +2,7 @@
 ghost use mathlib.Core.Path.{_≡_};
 ghost use lib.ListN.{getD};
 ghost use Rattle.token.specs.Entries.{Listed};
+ghost use Rattle.token.specs.Codes.{ELEMENT-TOKEN};
 ghost use Rattle.scan.specs.Steps.{stepAt};
 ghost use Rattle.common.specs.Common.{commonStep, Ready};
 ghost use Prim.Native.Nat.{_<_};
@@ -11,7 +12,7 @@ use token::QnameNumber;
 
 // ELEMENT, where its number has one byte.
 fn common_element(doc: &[u8], v: View, room: Room) -> Common
-    requires { ⌜ Ready (now doc) v room × (getD (now doc) (v .at) 0 ≡ 0xF8) ⌝ }
+    requires { ⌜ Ready (now doc) v room × (getD (now doc) (v .at) 0 ≡ ELEMENT-TOKEN) ⌝ }
     ensures { λ r. ⌜ commonStep (now (doc .entry)) v room r ≡ stepAt (now (doc .entry)) v room ⌝ }
 {
     let at = v.at;
@@ -61,19 +62,19 @@ pub fn common_at(table: &[u16; 256], doc: &[u8], v: View, room: Room) -> Common
         return Common::Other;
     }
     let mode = v.mode;
-    if 6 < modes::number_of(mode) {
+    if modes::AFTER_PUBLIC < modes::number_of(mode) {
         return Common::Other;
     }
     if room.events <= v.events {
         return Common::Other;
     }
-    if doc[at] == 0xF7 {
+    if doc[at] == token::ENDELEMENT_TOKEN {
         if v.elements == 0 {
             return Common::Other;
         }
         return Common::End;
     }
-    if doc[at] == 0xF8 {
+    if doc[at] == token::ELEMENT_TOKEN {
         return common_element(doc, v, room);
     }
     common_value(table, doc, v, room)

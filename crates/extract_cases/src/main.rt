@@ -12,7 +12,7 @@ use libc::STDOUT_FILENO;
 const FILE_ROOM: usize = 1048577;
 
 // What `print_reading::print` needs.
-const REPORT_ROOM: usize = 239771;
+const REPORT_ROOM: usize = print_reading::PRINTED;
 
 // Writes what the reading program writes.
 fn write_reading(doc: &[u8]) {

@@ -9,7 +9,8 @@ use lib.ListN.{length, getD}
 use borrow.Author.Tests.{ltb-true, leb-true}
 use Rattle.sequences.proofs.Tests.{tests, cond-if, and-left, and-right}
 use Rattle.token.specs.Answers.{accepted, missing, badHeader}
-use Rattle.fields.specs.Headers.{judged, headerAt, HeaderWithin}
+use Rattle.fields.specs.Headers.{headerJudged, headerAt}
+use Rattle.fields.specs.Bounds.{HeaderWithin}
 use Rattle.fields.specs.Faults.{refusedBy, Judges}
 use Rattle.fields.specs.declared.Header.{Header}
 use Rattle.fields.specs.declared.Header.the-variants.{Is}
@@ -60,16 +61,16 @@ module _ (doc : List ℕ) (at : ℕ) where
   end = Is (getD doc (at + 2) 0) (at + 5)
 
   abbrev from-fifth : Header
-  from-fifth = judged doc (at + 4) 0x04 0x04 end
+  from-fifth = headerJudged doc (at + 4) 0x04 0x04 end
 
   abbrev from-fourth : Header
-  from-fourth = judged doc (at + 3) 0xB0 0xB0 from-fifth
+  from-fourth = headerJudged doc (at + 3) 0xB0 0xB0 from-fifth
 
   abbrev from-third : Header
-  from-third = judged doc (at + 2) 1 2 from-fourth
+  from-third = headerJudged doc (at + 2) 1 2 from-fourth
 
   abbrev from-second : Header
-  from-second = judged doc (at + 1) 0xFF 0xFF from-third
+  from-second = headerJudged doc (at + 1) 0xFF 0xFF from-third
 
   module _ {a : ℕ} (first : Judges doc at 0xDF 0xDF a) where
     pub first-wrong : (a ≡ 0 → ⊥) → refusedBy (length doc) a at ≡ headerAt doc at
@@ -121,7 +122,7 @@ header-within doc at =
   where
     kept : (p first last : ℕ) (onward : Header)
         → (p < length doc → first ≤ getD doc p 0 → getD doc p 0 ≤ last → HeaderWithin (length doc) at onward)
-        → HeaderWithin (length doc) at (judged doc p first last onward)
+        → HeaderWithin (length doc) at (headerJudged doc p first last onward)
     kept p first last onward f =
         cond-if (HeaderWithin (length doc) at) (ltb p (length doc)) _ _
         (λ t. cond-if (HeaderWithin (length doc) at) (leb first (getD doc p 0) && leb (getD doc p 0) last) _ _

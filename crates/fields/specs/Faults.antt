@@ -1,4 +1,4 @@
--- What the code's answer for one byte of a header says, for the private functions.
+-- Serves the code. What the code's answer for one byte of a header says, for the private functions.
 use Prim.Native.Nat.{ℕ, _≤_, _<_}
 use mathlib.Core.Path.{_≡_}
 use mathlib.Core.Bool.{cond}
@@ -6,7 +6,7 @@ use mathlib.Core.List.{List}
 use lib.Dec.{eqb}
 use lib.ListN.{length, getD}
 use Rattle.token.specs.Answers.{missing, badHeader}
-use Rattle.fields.specs.Headers.{judged}
+use Rattle.fields.specs.Headers.{headerJudged}
 use Rattle.fields.specs.declared.Header.{Header}
 use Rattle.fields.specs.declared.Header.the-variants.{Refused}
 
@@ -19,6 +19,6 @@ pub record Judges (doc : List ℕ) (at first last number : ℕ) : Type 0 where
   pub there : number ≡ 0 → at < length doc
   pub low : number ≡ 0 → first ≤ getD doc at 0
   pub high : number ≡ 0 → getD doc at 0 ≤ last
-  pub right : number ≡ 0 → (onward : Header) → onward ≡ judged doc at first last onward
+  pub right : number ≡ 0 → (onward : Header) → onward ≡ headerJudged doc at first last onward
   -- else the refusal
-  pub wrong : (number ≡ 0 → ⊥) → (onward : Header) → refusedBy (length doc) number at ≡ judged doc at first last onward
+  pub wrong : (number ≡ 0 → ⊥) → (onward : Header) → refusedBy (length doc) number at ≡ headerJudged doc at first last onward

@@ -1,3 +1,4 @@
 pub mod References
 pub mod Headers
 pub mod Faults
+pub mod Bounds

@@ -1,6 +1,6 @@
 -- References to names and qnames by number (004, sections 2.2.2 and 2.2.4; 01, "Document rules"), in a document that has
 -- `known` of them: a number over that is 6 at its first byte, and so is qname 0. Name 0 is the empty text.
-use Prim.Native.Nat.{ℕ, _≤_, _<_}
+use Prim.Native.Nat.{ℕ}
 use mathlib.Core.Bool.{cond, _&&_}
 use mathlib.Core.List.{List}
 use lib.Dec.{leb}
@@ -27,12 +27,3 @@ qnameAfter known at (number.Refused number place) = qname.Refused number place
 
 unfoldable pub qnameAt : ℕ → List ℕ → ℕ → Qname
 qnameAt known doc at = qnameAfter known at (numberAt 5 doc at)
-
--- bounds that a caller needs
-abbrev pub NameWithin : ℕ → ℕ → ℕ → Name → Type 0
-NameWithin size at known (name.Is number next) = (at < next) × (next ≤ size) × (number .0 ≤ known)
-NameWithin size at known (name.Refused number place) = Unit
-
-abbrev pub QnameWithin : ℕ → ℕ → ℕ → Qname → Type 0
-QnameWithin size at known (qname.Is number next) = (at < next) × (next ≤ size) × (1 ≤ number .0) × (number .0 ≤ known)
-QnameWithin size at known (qname.Refused number place) = Unit

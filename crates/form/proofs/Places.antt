@@ -6,34 +6,20 @@ use mathlib.Core.Bool.{Bool, true, false, cond}
 use mathlib.Core.Option.{some}
 use mathlib.Core.List.{List, [], _∷_, _++_}
 use native.Mathlib.Omega.{arith}
-use lib.Dec.{eqb}
 use lib.ListN.{length, getElem?}
 use borrow.Author.Tests.{eqb-true, eqb-false, eq-eqb, ne-eqb}
+use Rattle.sequences.specs.Lists.{same}
 use Rattle.sequences.proofs.Tests.{and-left, and-right, cond-if}
-use Rattle.form.specs.Places.{triple, sameText, sameTriple, place, absent}
+use Rattle.sequences.proofs.Same.{same-true, same-itself}
+use Rattle.form.specs.Places.{triple, sameTriple, place, absent}
 
 -- a test of equality
 pub record Tells {A : Type 0} (same : A → A → Bool) : Type 0 where
   pub equal : (a b : A) → same a b ≡ true → a ≡ b
   pub itself : (a : A) → same a a ≡ true
 
-text-equal : (s t : List ℕ) → sameText s t ≡ true → s ≡ t
-unfolding sameText
-text-equal [] [] e = refl
-text-equal [] (y ∷ t) e = cc
-text-equal (x ∷ s) [] e = cc
-text-equal (x ∷ s) (y ∷ t) e =
-    let i : x ≡ y = eqb-true x y (and-left (eqb x y) _ e) in
-    let j : s ≡ t = text-equal s t (and-right (eqb x y) _ e) in
-    cc
-
-text-itself : (s : List ℕ) → sameText s s ≡ true
-unfolding sameText
-text-itself [] = refl
-text-itself (x ∷ s) = rw (eq-eqb x x refl, text-itself s)
-
-pub tells-text : Tells sameText
-tells-text = record { equal = text-equal; itself = text-itself }
+pub tells-text : Tells same
+tells-text = record { equal = same-true; itself = same-itself }
 
 triple-equal : {a a′ b b′ c c′ : List ℕ} → a ≡ a′ → b ≡ b′ → c ≡ c′ → triple a b c ≡ triple a′ b′ c′
 triple-equal i j k = cc
@@ -44,11 +30,11 @@ tells-triple =
     record {
       equal =
           λ q r e.
-          let i : q .uri ≡ r .uri = text-equal _ _ (and-left (sameText (q .uri) (r .uri)) _ e) in
-          let e′ = and-right (sameText (q .uri) (r .uri)) _ e in
-          let j : q .prefix ≡ r .prefix = text-equal _ _ (and-left (sameText (q .prefix) (r .prefix)) _ e′) in
-          triple-equal i j (text-equal _ _ (and-right (sameText (q .prefix) (r .prefix)) _ e′));
-      itself = λ q. rw (text-itself (q .uri), text-itself (q .prefix), text-itself (q .local));
+          let i : q .uri ≡ r .uri = same-true _ _ (and-left (same (q .uri) (r .uri)) _ e) in
+          let e′ = and-right (same (q .uri) (r .uri)) _ e in
+          let j : q .prefix ≡ r .prefix = same-true _ _ (and-left (same (q .prefix) (r .prefix)) _ e′) in
+          triple-equal i j (same-true _ _ (and-right (same (q .prefix) (r .prefix)) _ e′));
+      itself = λ q. rw (same-itself (q .uri), same-itself (q .prefix), same-itself (q .local));
     }
 
 module _ {A : Type 0} (same : A → A → Bool) where

@@ -9,6 +9,7 @@ use lib.ListN.{length}
 use Rattle.token.specs.Tokens.{shapeOf}
 use Rattle.token.specs.declared.Shape.{Shape}
 use Rattle.token.specs.declared.Shape.the-variants.{Nothing, Fixed, Text, Blob, CodePage, Decimal, Qname, Stamp, Date, Time, ZonedTime}
+use Rattle.token.specs.Codes.{NAMEDEF-TOKEN, QNAMEDEF-TOKEN, PI-TOKEN, NEST-TOKEN, ENDNEST-TOKEN}
 use Rattle.number.specs.Number.{shortest}
 use Rattle.machine.specs.Events.{Event, texted, standalone, pi, qnamed, valued, nest, plain}
 use Rattle.form.specs.Places.{Triple, triple, sameTriple, absent, fresh, numberOf, qnumberOf, grown}
@@ -16,8 +17,8 @@ use Rattle.form.specs.Places.{Triple, triple, sameTriple, absent, fresh,
 -- ---- bytes of texts, payloads and headers
 
 -- a text after its length in units
-unfoldable pub counted : List ℕ → List ℕ
-counted t = shortest (length t / 2) ++ t
+unfoldable pub withUnits : List ℕ → List ℕ
+withUnits t = shortest (length t / 2) ++ t
 
 -- the length that stands before a payload: in units before a text, in bytes before a blob, a code page text and a decimal
 unfoldable pub lengthOf : Shape → List ℕ → List ℕ
@@ -59,7 +60,7 @@ none-yet = scopes (defined [] []) []
 
 -- a text, where it is not yet defined
 unfoldable pub definition : List (List ℕ) → List ℕ → List ℕ
-definition texts t = cond (fresh texts t) (0xF0 ∷ counted t) []
+definition texts t = cond (fresh texts t) (NAMEDEF-TOKEN ∷ withUnits t) []
 
 -- the texts of a qname, one after the other
 unfoldable pub withTexts : List (List ℕ) → Triple → List (List ℕ)
@@ -71,7 +72,7 @@ definitions texts q =
 
 -- a qname by the numbers of its texts
 unfoldable pub qnameBytes : List (List ℕ) → Triple → List ℕ
-qnameBytes texts q = 0xEF ∷ (shortest (numberOf texts (q .uri)) ++ (shortest (numberOf texts (q .prefix)) ++ shortest (numberOf texts (q .local))))
+qnameBytes texts q = QNAMEDEF-TOKEN ∷ (shortest (numberOf texts (q .uri)) ++ (shortest (numberOf texts (q .prefix)) ++ shortest (numberOf texts (q .local))))
 
 -- a qname with its texts, where it is not yet defined
 unfoldable pub qnameDefinition : Defined → Triple → List ℕ
@@ -84,13 +85,13 @@ withQname d q = cond (absent sameTriple (d .qnames) q) (defined (withTexts (d .n
 
 -- the bytes of an event, after the definitions that it needs
 abbrev pub emit : Defined → Event → List ℕ
-emit d (texted token t) = token ∷ counted t
+emit d (texted token t) = token ∷ withUnits t
 emit d (standalone value) = value ∷ []
-emit d (pi target t) = definition (d .names) target ++ (0xF4 ∷ (shortest (numberOf (d .names) target) ++ counted t))
+emit d (pi target t) = definition (d .names) target ++ (PI-TOKEN ∷ (shortest (numberOf (d .names) target) ++ withUnits t))
 emit d (qnamed token uri prefix local) =
     qnameDefinition d (triple uri prefix local) ++ (token ∷ shortest (qnumberOf (d .qnames) (triple uri prefix local)))
 emit d (valued token payload) = token ∷ (lengthOf (shapeOf token) payload ++ payload)
-emit d (nest version) = 0xEC ∷ headerOf version
+emit d (nest version) = NEST-TOKEN ∷ headerOf version
 emit d (plain token) = token ∷ []
 
 -- a nested document starts empty; its parent's names go on after it
@@ -98,18 +99,18 @@ abbrev pub left : Defined → List Defined → Scopes
 left here [] = scopes here []
 left here (d ∷ ds) = scopes d ds
 
-abbrev pub onward : Scopes → Event → Scopes
-onward s (texted token t) = s
-onward s (standalone value) = s
-onward s (pi target t) = scopes (defined (grown (s .here .names) target) (s .here .qnames)) (s .outer)
-onward s (qnamed token uri prefix local) = scopes (withQname (s .here) (triple uri prefix local)) (s .outer)
-onward s (valued token payload) = s
-onward s (nest version) = scopes (defined [] []) (s .here ∷ s .outer)
-onward s (plain token) = cond (eqb token 0xEB) (left (s .here) (s .outer)) s
+abbrev pub scopesAfter : Scopes → Event → Scopes
+scopesAfter s (texted token t) = s
+scopesAfter s (standalone value) = s
+scopesAfter s (pi target t) = scopes (defined (grown (s .here .names) target) (s .here .qnames)) (s .outer)
+scopesAfter s (qnamed token uri prefix local) = scopes (withQname (s .here) (triple uri prefix local)) (s .outer)
+scopesAfter s (valued token payload) = s
+scopesAfter s (nest version) = scopes (defined [] []) (s .here ∷ s .outer)
+scopesAfter s (plain token) = cond (eqb token ENDNEST-TOKEN) (left (s .here) (s .outer)) s
 
 unfoldable pub body : Scopes → List Event → List ℕ
 body s [] = []
-body s (e ∷ es) = emit (s .here) e ++ body (onward s e) es
+body s (e ∷ es) = emit (s .here) e ++ body (scopesAfter s e) es
 
 -- the canonical form
 unfoldable pub canonical : ℕ → List Event → List ℕ

@@ -14,26 +14,26 @@ use Rattle.number.specs.Number.{shortest}
 use Rattle.token.proofs.Shape.{the-type}
 use Rattle.token.specs.declared.Shape.{Shape}
 use Rattle.token.specs.declared.Shape.the-variants.{Nothing, Fixed, Text, Blob, CodePage, Decimal, Qname, Stamp, Date, Time, ZonedTime}
-use Rattle.form.specs.Canonical.{counted, lengthOf}
+use Rattle.form.specs.Canonical.{withUnits, lengthOf}
 use Rattle.form_output.specs.Output.{Fits, Put}
 
 -- ---- a text
 
 module _ (doc : List ℕ) (place units : ℕ) (h : place + 2 * units ≤ length doc) where
-  counted-is : counted (part doc place (2 * units)) ≡ shortest units ++ part doc place (2 * units)
-  unfolding counted
+  counted-is : withUnits (part doc place (2 * units)) ≡ shortest units ++ part doc place (2 * units)
+  unfolding withUnits
   counted-is =
       let l = part-length doc place (2 * units) h in
       let e : length (part doc place (2 * units)) / 2 ≡ units = omega arith in
       ap (λ (n : ℕ). shortest n ++ part doc place (2 * units)) e
 
-  pub text-fits : {room at : ℕ} → Fits room at (length (counted (part doc place (2 * units)))) → Fits room at (length (shortest units) + 2 * units)
+  pub text-fits : {room at : ℕ} → Fits room at (length (withUnits (part doc place (2 * units)))) → Fits room at (length (shortest units) + 2 * units)
   text-fits {room} {at} f =
       let l = part-length doc place (2 * units) h in
-      let e : length (counted (part doc place (2 * units))) ≡ length (shortest units) + 2 * units = rw (counted-is, length-append, l) in
+      let e : length (withUnits (part doc place (2 * units))) ≡ length (shortest units) + 2 * units = rw (counted-is, length-append, l) in
       rw e at f
 
-  pub text-laid : {b e : List ℕ} {at r : ℕ} → Put b e at r (shortest units ++ part doc place (2 * units)) → Put b e at r (counted (part doc place (2 * units)))
+  pub text-laid : {b e : List ℕ} {at r : ℕ} → Put b e at r (shortest units ++ part doc place (2 * units)) → Put b e at r (withUnits (part doc place (2 * units)))
   text-laid x = rw counted-is x
 
 -- ---- a payload

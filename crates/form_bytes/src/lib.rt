@@ -4,7 +4,7 @@ ghost use Prim.Native.Nat.{_+_, _*_, _≤_};
 ghost use lib.ListN.{length};
 ghost use Rattle.sequences.specs.Lists.{part};
 ghost use Rattle.number.specs.Number.{shortest};
-ghost use Rattle.form.specs.Canonical.{counted, lengthOf, headerOf};
+ghost use Rattle.form.specs.Canonical.{withUnits, lengthOf, headerOf};
 ghost use Rattle.form_output.specs.Output.{Fits, Put};
 use token::Shape;
 
@@ -28,8 +28,8 @@ fn put_counted(
 // A text after its length in units.
 pub fn put_text(doc: &[u8], place: usize, units: usize, out: &mut [u8], at: usize) -> usize
     requires { ⌜ (place + 2 * units ≤ length (now doc)) × (length (now doc) ≤ 65536) × (at ≤ 1099511627776)
-        × Fits (length (now out)) at (length (counted (part (now doc) place (2 * units)))) ⌝ }
-    ensures { λ r. ⌜ Put (now (out .entry)) (now (out .exit)) at r (counted (part (now (doc .entry)) place (2 * units))) ⌝ }
+        × Fits (length (now out)) at (length (withUnits (part (now doc) place (2 * units)))) ⌝ }
+    ensures { λ r. ⌜ Put (now (out .entry)) (now (out .exit)) at r (withUnits (part (now (doc .entry)) place (2 * units))) ⌝ }
 {
     let size = 2 * units;
     put_counted(doc, place, size, units, out, at)

@@ -9,15 +9,17 @@ use Rattle.sequences.proofs.Overlay.{part-length}
 use Rattle.token.specs.Tokens.{shapeOf}
 use Rattle.token.specs.declared.Shape.{Shape}
 use Rattle.number.specs.Number.{shortest}
-use Rattle.value.specs.Fields.{textAt, Lies}
+use Rattle.value.specs.Fields.{textAt}
+use Rattle.value.specs.Bounds.{Lies}
 use Rattle.value.specs.declared.Text as texts
 use Rattle.value.specs.declared.Text.the-variants as text
 use Rattle.machine.specs.Events.{dataIn}
-use Rattle.form.specs.Canonical.{counted, lengthOf}
+use Rattle.machine.specs.Tables.{NamesInside}
+use Rattle.form.specs.Canonical.{withUnits, lengthOf}
 use Rattle.form_output.specs.Output.{Fits, Put}
 use Rattle.form_output.proofs.Laws.{shortest-few, put-byte, put-then, fits-first, fits-next}
 use Rattle.form_slots.specs.Slots.{slotsAfter, numberIn, Low}
-use Rattle.form_names.specs.Naming.{bytesBefore, Texts}
+use Rattle.form_names.specs.Naming.{bytesBefore}
 use Rattle.form_names.proofs.Names.{slots-low}
 use Rattle.form_slots.proofs.Slots.{low-more, number-low}
 use Rattle.form_names.proofs.Steps.{bytes-few}
@@ -48,7 +50,7 @@ module _ (doc : List ℕ) (token place size : ℕ) {shape : Shape} (s : shape �
 
 -- ---- PIs
 
-module _ (doc names slots : List ℕ) (rows base class start : ℕ) (t : Texts doc names rows) (low : Low 15000 slots) where
+module _ (doc names slots : List ℕ) (rows base class start : ℕ) (t : NamesInside doc names rows) (low : Low 15000 slots) where
   abbrev bytes : List ℕ
   bytes = bytesBefore doc names slots base class
 
@@ -56,7 +58,7 @@ module _ (doc names slots : List ℕ) (rows base class start : ℕ) (t : Texts d
   number = numberIn (slotsAfter slots base class) base class
 
   abbrev after : List ℕ
-  after = 0xF4 ∷ (shortest number ++ counted (dataIn doc (textAt 5 doc start)))
+  after = 0xF4 ∷ (shortest number ++ withUnits (dataIn doc (textAt 5 doc start)))
 
   pi-is : piBytes (tables doc names [] [] []) slots base class start ≡ bytes ++ after
   unfolding piBytes
@@ -64,7 +66,7 @@ module _ (doc names slots : List ℕ) (rows base class start : ℕ) (t : Texts d
 
   pub pi-asks : (out : List ℕ) (at : ℕ) → class ≤ rows → base + 1025 ≤ 9225 → at ≤ 900000000000
       → Fits (length out) at (length (piBytes (tables doc names [] [] []) slots base class start))
-      → Texts doc names rows × (class ≤ rows) × (base + 1025 ≤ 9225) × Low 20000 slots × (at ≤ 1000000000000) × Fits (length out) at (length bytes)
+      → NamesInside doc names rows × (class ≤ rows) × (base + 1025 ≤ 9225) × Low 20000 slots × (at ≤ 1000000000000) × Fits (length out) at (length bytes)
   pi-asks out at l b near f = (t, l, b, low-more (omega arith) low, omega arith, fits-first bytes after (rw pi-is at f))
 
   module _ {out m : List ℕ} {at p : ℕ} (x : Put out m at p bytes) (near : at ≤ 900000000000) where
@@ -91,22 +93,22 @@ module _ (doc names slots : List ℕ) (rows base class start : ℕ) (t : Texts d
 
       pub pi-text : {r : texts.Text} {place units : ℕ} → r ≡ textAt 5 doc start → r ≡ text.Is place units → Lies (length doc) start r
           → Fits (length out) at (length (piBytes (tables doc names [] [] []) slots base class start))
-          → (place + 2 * units ≤ length doc) × (length doc ≤ 65536) × (y ≤ 1099511627776) × Fits (length m″) y (length (counted (part doc place (2 * units))))
+          → (place + 2 * units ≤ length doc) × (length doc ≤ 65536) × (y ≤ 1099511627776) × Fits (length m″) y (length (withUnits (part doc place (2 * units))))
       pi-text {r} {place} {units} e f l h =
           let w = subst (λ (a : texts.Text). Lies (length doc) start a) f l in
           let n = pi-near in
           let few = shortest-few k in
           let past = z .past in
           let a : Fits (length m) p (length after) = fits-next after x (rw pi-is at h) in
-          let b = byte-fits m m′ p 0xF4 (shortest number ++ counted (dataIn doc (textAt 5 doc start))) q a in
-          let c = fits-next (counted (dataIn doc (textAt 5 doc start))) z′ b in
+          let b = byte-fits m m′ p 0xF4 (shortest number ++ withUnits (dataIn doc (textAt 5 doc start))) q a in
+          let c = fits-next (withUnits (dataIn doc (textAt 5 doc start))) z′ b in
           (w .1, t .short, omega arith, rw (text-is e f) at c)
 
       pub pi-put : {r : texts.Text} {place units : ℕ} {e : List ℕ} {v : ℕ} → r ≡ textAt 5 doc start → r ≡ text.Is place units
-          → Put m″ e y v (counted (part doc place (2 * units)))
+          → Put m″ e y v (withUnits (part doc place (2 * units)))
           → Put out e at v (piBytes (tables doc names [] [] []) slots base class start) × (s ≡ slotsAfter slots base class)
       pi-put {e = e} {v = v} e₁ f u =
-          let u′ : Put m″ e y v (counted (dataIn doc (textAt 5 doc start))) = rw (text-is e₁ f) u in
+          let u′ : Put m″ e y v (withUnits (dataIn doc (textAt 5 doc start))) = rw (text-is e₁ f) u in
           (rw pi-is (put-then x (byte-then q (put-then z′ u′))), i)
 
 -- a text that is there is not refused

@@ -6,18 +6,21 @@ use native.Mathlib.Omega.{arith}
 use lib.ListN.{length, getD}
 use Rattle.sequences.specs.Lists.{part}
 use Rattle.token.specs.Tokens.{shapeOf}
+use Rattle.token.specs.Answers.{qnameWidth}
 use Rattle.number.specs.Number.{shortest}
-use Rattle.form.specs.Canonical.{counted, lengthOf, headerOf}
+use Rattle.machine.specs.Tables.{NamesInside}
+use Rattle.form.specs.Canonical.{withUnits, lengthOf, headerOf}
 use Rattle.form_output.specs.Output.{Fits, Put}
 use Rattle.form_output.proofs.Laws.{fits-first}
 use Rattle.form_slots.specs.declared.Parts.{Parts}
-use Rattle.form_slots.specs.Slots.{classAt, slotsAfter, numberIn, partsAt, Low, PartsFit, Cleared}
-use Rattle.form_names.specs.Naming.{qnameBefore, namesAfter, Texts}
+use Rattle.form_slots.specs.Slots.{slotsAfter, numberIn, partsAt, Low, PartsFit, Cleared}
+use Rattle.form_names.specs.Naming.{qnameBefore, namesAfter}
 use Rattle.form_slots.proofs.Slots.{low-more}
 use Rattle.form_items.specs.declared.Spot.{Spot}
 use Rattle.form_items.specs.declared.Item.{Item}
 use Rattle.form_items.specs.declared.Item.the-variants.{Byte, Texted, Pi, Refer, Valued, Nest, Leave}
 use Rattle.form_items.specs.Walk.{Tables, tables, before, baseAt, piBytes, referBytes, bytesFor, Wrote, Ready, TextThere, ItemFits}
+use Rattle.classes.specs.Search.{classAt}
 
 before-is : (row : ℕ) → 1 ≤ row → before row ≡ row - 1
 before-is zero h = absurd (let q : ⊥ = omega arith in q)
@@ -45,14 +48,14 @@ module _ (t : Tables) (rows qrows : ℕ) (slots qslots out : List ℕ) (w : Spot
 
   pub text-asks : {token place units : ℕ} → item ≡ Texted token place units
       → (place + 2 * units ≤ length (t .doc)) × (length (t .doc) ≤ 65536) × (w .at ≤ 1000000000000)
-      × Fits (length out) (w .at) (length (token ∷ counted (part (t .doc) place (2 * units))))
+      × Fits (length out) (w .at) (length (token ∷ withUnits (part (t .doc) place (2 * units))))
   text-asks {token} {place} {units} e = (fits-as (Texted token place units) e .1, ready .texts .short, omega arith, room-as (Texted token place units) e)
 
-  pub target-asks : {row start : ℕ} → item ≡ Pi row start → (row ≤ 1024) × (length (t .classes) ≡ 1024)
-  target-asks {row} {start} e = let l = fits-as (Pi row start) e .0 in let f = ready .texts .few in (omega arith, ready .classes-long)
+  pub target-asks : {row start : ℕ} → item ≡ Pi row start → row ≤ 1024
+  target-asks {row} {start} e = let l = fits-as (Pi row start) e .0 in let f = ready .texts .few in omega arith
 
   pub pi-asks : {row start class base : ℕ} → item ≡ Pi row start → class ≡ classAt (t .classes) row → base ≡ 1025 * w .depth
-      → Texts (t .doc) (t .names) rows × (class ≤ rows) × (base + 1025 ≤ 9225) × Low 15000 slots × (w .at ≤ 900000000000) × TextThere (t .doc) start
+      → NamesInside (t .doc) (t .names) rows × (class ≤ rows) × (base + 1025 ≤ 9225) × Low 15000 slots × (w .at ≤ 900000000000) × TextThere (t .doc) start
       × Fits (length out) (w .at) (length (piBytes (tables (t .doc) (t .names) [] [] []) slots base class start))
   pi-asks {row} {start} {class} {base} e c b =
       let f = fits-as (Pi row start) e in
@@ -60,8 +63,8 @@ module _ (t : Tables) (rows qrows : ℕ) (slots qslots out : List ℕ) (w : Spot
       (ready .texts, rw c (ready .class-low row (f .0)), rw b base-room, low, omega arith, f .1, rw (c, b) (rw (pi-same t slots (baseAt (w .depth)) (classAt (t .classes) row) start) at r))
 
   pub row-asks : {token row : ℕ} → item ≡ Refer token row
-      → (row - 1 < 1024) × (3 * (row - 1) + 3 ≤ length (t .qnames)) × (length (t .classes) ≡ 1024) × (getD (t .qnames) (3 * (row - 1)) 0 ≤ 1024)
-      × (getD (t .qnames) (3 * (row - 1) + 1) 0 ≤ 1024) × (getD (t .qnames) (3 * (row - 1) + 2) 0 ≤ 1024)
+      → (row - 1 < 1024) × (qnameWidth * (row - 1) + 3 ≤ length (t .qnames)) × (getD (t .qnames) (qnameWidth * (row - 1)) 0 ≤ 1024)
+      × (getD (t .qnames) (qnameWidth * (row - 1) + 1) 0 ≤ 1024) × (getD (t .qnames) (qnameWidth * (row - 1) + 2) 0 ≤ 1024)
   row-asks {token} {row} e =
       let f = fits-as (Refer token row) e in
       let a = f .1 in
@@ -73,10 +76,10 @@ module _ (t : Tables) (rows qrows : ℕ) (slots qslots out : List ℕ) (w : Spot
       let x = ready .uri-in (row - 1) k in
       let y = ready .prefix-in (row - 1) k in
       let z = ready .local-in (row - 1) k in
-      (omega arith, omega arith, ready .classes-long, omega arith, omega arith, omega arith)
+      (omega arith, omega arith, omega arith, omega arith, omega arith)
 
-  pub qclass-asks : {token row : ℕ} → item ≡ Refer token row → (row ≤ 1024) × (length (t .qclasses) ≡ 1024)
-  qclass-asks {token} {row} e = let l = fits-as (Refer token row) e .2 in let q = ready .qrows-few in (omega arith, ready .qclasses-long)
+  pub qclass-asks : {token row : ℕ} → item ≡ Refer token row → row ≤ 1024
+  qclass-asks {token} {row} e = let l = fits-as (Refer token row) e .2 in let q = ready .qrows-few in omega arith
 
   pub row-from : {token row : ℕ} → item ≡ Refer token row → 1 ≤ row
   row-from {token} {row} e = fits-as (Refer token row) e .1
@@ -91,7 +94,7 @@ module _ (t : Tables) (rows qrows : ℕ) (slots qslots out : List ℕ) (w : Spot
     unfolding referBytes
     bytes-are = rw (before-is row from, p, c, b)
 
-    pub refer-asks : Texts (t .doc) (t .names) rows × PartsFit rows q × (1 ≤ class) × (class ≤ 1024) × (base + 1025 ≤ 9225) × Low 19000 slots × Low 19000 qslots
+    pub refer-asks : NamesInside (t .doc) (t .names) rows × PartsFit rows q × (1 ≤ class) × (class ≤ 1024) × (base + 1025 ≤ 9225) × Low 19000 slots × Low 19000 qslots
         × (w .at ≤ 900000000000) × Fits (length out) (w .at) (length (qnameBefore (t .doc) (t .names) slots qslots base q class))
     refer-asks =
         let f = fits-as (Refer token row) e in
@@ -144,7 +147,7 @@ module _ (t : Tables) (rows qrows : ℕ) (slots qslots out : List ℕ) (w : Spot
   pub wrote-byte : {value r : ℕ} {out′ : List ℕ} → item ≡ Byte value → Put out out′ (w .at) r (value ∷ []) → Wrote t slots qslots out slots qslots out′ w item r
   wrote-byte e p = rw e (record { put = p; names-kept = refl; qnames-kept = refl })
 
-  pub wrote-text : {token place units r : ℕ} {out′ : List ℕ} → item ≡ Texted token place units → Put out out′ (w .at) r (token ∷ counted (part (t .doc) place (2 * units)))
+  pub wrote-text : {token place units r : ℕ} {out′ : List ℕ} → item ≡ Texted token place units → Put out out′ (w .at) r (token ∷ withUnits (part (t .doc) place (2 * units)))
       → Wrote t slots qslots out slots qslots out′ w item r
   wrote-text e p = rw e (record { put = p; names-kept = refl; qnames-kept = refl })
 

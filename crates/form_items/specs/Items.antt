@@ -1,16 +1,17 @@
--- What a row of events asks of the walk, by its token's class.
+-- Serves the code. What a row of events asks of the walk, by its token's class.
 use mathlib.Core.Bool.{cond}
 use lib.Dec.{eqb}
 use Rattle.token.specs.Tokens.{classOf}
 use Rattle.token.specs.declared.Class.{Class}
 use Rattle.token.specs.declared.Class.the-variants as class
+use Rattle.token.specs.Codes.{XSD-QNAME}
 use Rattle.machine.specs.Rows.{EventRow}
 use Rattle.form_items.specs.declared.Item.{Item}
 use Rattle.form_items.specs.declared.Item.the-variants.{Byte, Texted, Pi, Refer, Valued, Nest, Leave}
 
 abbrev pub itemBy : Class → EventRow → Item
 itemBy class.Unknown e = Byte (e .a)
-itemBy class.Value e = cond (eqb (e .token) 0x8C) (Refer (e .token) (e .a)) (Valued (e .token) (e .a) (e .b))
+itemBy class.Value e = cond (eqb (e .token) XSD-QNAME) (Refer (e .token) (e .a)) (Valued (e .token) (e .a) (e .b))
 itemBy class.LaterValue e = Valued (e .token) (e .a) (e .b)
 itemBy class.XmlDecl e = Texted (e .token) (e .a) (e .b)
 itemBy class.Encoding e = Texted (e .token) (e .a) (e .b)

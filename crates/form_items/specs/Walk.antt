@@ -1,29 +1,32 @@
--- What the walk over the rows of events does at each of them: the bytes that it writes, and the slots that it keeps.
+-- Serves the code. What the walk over the rows of events does at each of them: the bytes that it writes, and the slots that it
+-- keeps.
 use Prim.Native.Nat.{ℕ, zero, suc, _+_, _-_, _*_, _≤_, _<_}
 use mathlib.Core.Path.{_≡_}
 use mathlib.Core.Logic.{_⊎_}
-use mathlib.Core.List.{List, [], _∷_, _++_, map}
+use mathlib.Core.List.{List, [], _∷_, _++_}
 use mathlib.Core.Option.{some}
 use lib.ListN.{length, getD}
 use Rattle.sequences.specs.Lists.{Front, part}
 use Rattle.token.specs.Tokens.{shapeOf}
+use Rattle.token.specs.Codes.{PI-TOKEN, NEST-TOKEN, ENDNEST-TOKEN}
+use Rattle.token.specs.Answers.{qnameWidth, eventWidth}
 use Rattle.number.specs.Number.{shortest}
 use Rattle.value.specs.Fields.{textAt}
 use Rattle.value.specs.declared.Text.the-variants as text
 use Rattle.machine.specs.Rows.{event}
-use Rattle.machine.specs.Events.{Event, dataIn, eventOf}
-use Rattle.machine.specs.Facts.{Every, NameFits, QnameFits, Placed}
-use Rattle.machine.specs.Balance.{closed, check}
-use Rattle.classes.specs.Tables.{nameRowsIn, qnameRowsIn, eventRowsIn}
+use Rattle.machine.specs.Events.{dataIn}
+use Rattle.machine.specs.Balance.{nothingOpen, check}
+use Rattle.machine.specs.Tables.{nameRowsIn, qnameRowsIn, eventRowsIn, Filled, NamesInside}
 use Rattle.classes.specs.Classes.{nameClasses, qnameClasses}
-use Rattle.form.specs.Canonical.{counted, lengthOf, headerOf}
+use Rattle.form.specs.Canonical.{withUnits, lengthOf, headerOf}
 use Rattle.form_output.specs.Output.{Put}
-use Rattle.form_slots.specs.Slots.{classAt, slotsAfter, numberIn, partsAt, Cleared}
-use Rattle.form_names.specs.Naming.{bytesBefore, qnameBefore, namesAfter, Texts}
+use Rattle.form_slots.specs.Slots.{slotsAfter, numberIn, partsAt, Cleared, region}
+use Rattle.form_names.specs.Naming.{bytesBefore, qnameBefore, namesAfter}
 use Rattle.form_items.specs.Items.{itemOf}
 use Rattle.form_items.specs.declared.Spot.{Spot}
 use Rattle.form_items.specs.declared.Item.{Item}
 use Rattle.form_items.specs.declared.Item.the-variants.{Byte, Texted, Pi, Refer, Valued, Nest, Leave}
+use Rattle.classes.specs.Search.{classAt}
 
 -- the tables and the classes of their rows
 pub record Tables : Type 0 where
@@ -42,13 +45,13 @@ before zero = 0
 before (suc k) = k
 
 abbrev pub baseAt : ℕ → ℕ
-baseAt depth = 1025 * depth
+baseAt depth = region * depth
 
 -- a PI: its target's definition, its target's number, its text
 unfoldable pub piBytes : Tables → List ℕ → ℕ → ℕ → ℕ → List ℕ
 piBytes t slots base class start =
     bytesBefore (t .doc) (t .names) slots base class
-    ++ (0xF4 ∷ (shortest (numberIn (slotsAfter slots base class) base class) ++ counted (dataIn (t .doc) (textAt 5 (t .doc) start))))
+    ++ (PI-TOKEN ∷ (shortest (numberIn (slotsAfter slots base class) base class) ++ withUnits (dataIn (t .doc) (textAt 5 (t .doc) start))))
 
 -- an event with a qname: the definitions that it needs, its token and the qname's number
 unfoldable pub referBytes : Tables → List ℕ → List ℕ → ℕ → ℕ → ℕ → ℕ → List ℕ
@@ -58,13 +61,13 @@ referBytes t slots qslots base token k class =
 
 abbrev pub bytesFor : Tables → List ℕ → List ℕ → ℕ → Item → List ℕ
 bytesFor t slots qslots base (Byte value) = value ∷ []
-bytesFor t slots qslots base (Texted token place units) = token ∷ counted (part (t .doc) place (2 * units))
+bytesFor t slots qslots base (Texted token place units) = token ∷ withUnits (part (t .doc) place (2 * units))
 bytesFor t slots qslots base (Pi row start) = piBytes t slots base (classAt (t .classes) row) start
 bytesFor t slots qslots base (Refer token row) = referBytes t slots qslots base token (before row) (classAt (t .qclasses) row)
 bytesFor t slots qslots base (Valued token place size) =
     token ∷ (lengthOf (shapeOf token) (part (t .doc) place size) ++ part (t .doc) place size)
-bytesFor t slots qslots base (Nest version) = 0xEC ∷ headerOf version
-bytesFor t slots qslots base Leave = 0xEB ∷ []
+bytesFor t slots qslots base (Nest version) = NEST-TOKEN ∷ headerOf version
+bytesFor t slots qslots base Leave = ENDNEST-TOKEN ∷ []
 
 -- the slots of names and of qnames afterwards
 abbrev pub NamesKept : Tables → List ℕ → List ℕ → ℕ → Item → List ℕ → Type 0
@@ -74,7 +77,7 @@ NamesKept t slots qslots base (Pi row start) slots′ = slots′ ≡ slotsAfter 
 NamesKept t slots qslots base (Refer token row) slots′ =
     slots′ ≡ namesAfter slots qslots base (partsAt (t .qnames) (t .classes) (before row)) (classAt (t .qclasses) row)
 NamesKept t slots qslots base (Valued token place size) slots′ = slots′ ≡ slots
-NamesKept t slots qslots base (Nest version) slots′ = Cleared slots slots′ (base + 1025)
+NamesKept t slots qslots base (Nest version) slots′ = Cleared slots slots′ (base + region)
 NamesKept t slots qslots base Leave slots′ = slots′ ≡ slots
 
 abbrev pub QnamesKept : Tables → List ℕ → ℕ → Item → List ℕ → Type 0
@@ -83,17 +86,17 @@ QnamesKept t qslots base (Texted token place units) qslots′ = qslots′ ≡ qs
 QnamesKept t qslots base (Pi row start) qslots′ = qslots′ ≡ qslots
 QnamesKept t qslots base (Refer token row) qslots′ = qslots′ ≡ slotsAfter qslots base (classAt (t .qclasses) row)
 QnamesKept t qslots base (Valued token place size) qslots′ = qslots′ ≡ qslots
-QnamesKept t qslots base (Nest version) qslots′ = Cleared qslots qslots′ (base + 1025)
+QnamesKept t qslots base (Nest version) qslots′ = Cleared qslots qslots′ (base + region)
 QnamesKept t qslots base Leave qslots′ = qslots′ ≡ qslots
 
-abbrev pub depthAfter : Item → ℕ → ℕ
-depthAfter (Byte value) depth = depth
-depthAfter (Texted token place units) depth = depth
-depthAfter (Pi row start) depth = depth
-depthAfter (Refer token row) depth = depth
-depthAfter (Valued token place size) depth = depth
-depthAfter (Nest version) depth = depth + 1
-depthAfter Leave depth = depth - 1
+abbrev pub nestedAfter : Item → ℕ → ℕ
+nestedAfter (Byte value) depth = depth
+nestedAfter (Texted token place units) depth = depth
+nestedAfter (Pi row start) depth = depth
+nestedAfter (Refer token row) depth = depth
+nestedAfter (Valued token place size) depth = depth
+nestedAfter (Nest version) depth = depth + 1
+nestedAfter Leave depth = depth - 1
 
 -- what is written and kept for an item
 pub record Wrote (t : Tables) (slots qslots out slots′ qslots′ out′ : List ℕ) (w : Spot) (item : Item) (next : ℕ) : Type 0 where
@@ -104,11 +107,11 @@ pub record Wrote (t : Tables) (slots qslots out slots′ qslots′ out′ : List
 -- the same for a turn of the walk
 pub record Turned (t : Tables) (slots qslots out slots′ qslots′ out′ : List ℕ) (w : Spot) (item : Item) (r : Spot) : Type 0 where
   pub wrote : Wrote t slots qslots out slots′ qslots′ out′ w item (r .at)
-  pub depth-is : r .depth ≡ depthAfter item (w .depth)
+  pub depth-is : r .depth ≡ nestedAfter item (w .depth)
 
 -- the item of row i of a table of events
 abbrev pub itemAt : List ℕ → ℕ → Item
-itemAt events i = itemOf (event (getD events (4 * i) 0) (getD events (4 * i + 1) 0) (getD events (4 * i + 2) 0) (getD events (4 * i + 3) 0))
+itemAt events i = itemOf (event (getD events (eventWidth * i) 0) (getD events (eventWidth * i + 1) 0) (getD events (eventWidth * i + 2) 0) (getD events (eventWidth * i + 3) 0))
 
 -- an output of at most one byte, which is only measured over, or one with room for so many bytes
 abbrev pub Either : ℕ → ℕ → Type 0
@@ -118,15 +121,15 @@ Either room size = (room ≤ 1) ⊎ (size ≤ room)
 
 -- so many rows of names and of qnames, and their classes
 pub record Ready (t : Tables) (rows qrows : ℕ) : Type 0 where
-  pub texts : Texts (t .doc) (t .names) rows
+  pub texts : NamesInside (t .doc) (t .names) rows
   pub classes-long : length (t .classes) ≡ 1024
   pub qclasses-long : length (t .qclasses) ≡ 1024
   pub class-low : (x : ℕ) → x ≤ rows → classAt (t .classes) x ≤ rows
   pub qrows-few : qrows ≤ 1024
-  pub qnames-long : 3 * qrows ≤ length (t .qnames)
-  pub uri-in : (k : ℕ) → k < qrows → getD (t .qnames) (3 * k) 0 ≤ rows
-  pub prefix-in : (k : ℕ) → k < qrows → getD (t .qnames) (3 * k + 1) 0 ≤ rows
-  pub local-in : (k : ℕ) → k < qrows → getD (t .qnames) (3 * k + 2) 0 ≤ rows
+  pub qnames-long : qnameWidth * qrows ≤ length (t .qnames)
+  pub uri-in : (k : ℕ) → k < qrows → getD (t .qnames) (qnameWidth * k) 0 ≤ rows
+  pub prefix-in : (k : ℕ) → k < qrows → getD (t .qnames) (qnameWidth * k + 1) 0 ≤ rows
+  pub local-in : (k : ℕ) → k < qrows → getD (t .qnames) (qnameWidth * k + 2) 0 ≤ rows
   pub qclass-from : (x : ℕ) → 1 ≤ x → x ≤ qrows → 1 ≤ classAt (t .qclasses) x
   pub qclass-low : (x : ℕ) → 1 ≤ x → x ≤ qrows → classAt (t .qclasses) x ≤ 1024
 
@@ -147,26 +150,11 @@ ItemFits t rows qrows depth Leave = 1 ≤ depth
 
 -- ---- what the tables hold when the walk begins
 
--- so many rows of names, qnames and events, which reading has made of the document, and the classes of names and qnames
+-- the tables after an accepted reading, with balanced events, and the classes of names and qnames
 pub record Prepared (t : Tables) (events : List ℕ) (rows qrows count : ℕ) : Type 0 where
-  pub short : length (t .doc) ≤ 65536
-  pub few : rows ≤ 1024
-  pub long : 2 * rows ≤ length (t .names)
-  pub qfew : qrows ≤ 1024
-  pub qlong : 3 * qrows ≤ length (t .qnames)
-  pub efew : count ≤ 4096
-  pub elong : 4 * count ≤ length events
-  pub names-fit : Every (NameFits (length (t .doc))) (nameRowsIn rows (t .names))
-  pub qnames-fit : Every (QnameFits rows) (qnameRowsIn qrows (t .qnames))
-  pub last : ℕ
-  pub events-fit : Placed (t .doc) rows qrows (eventRowsIn count events) last
-  pub balanced : check closed (eventRowsIn count events) ≡ some closed
+  pub filled : Filled (t .doc) (t .names) (t .qnames) events rows qrows count
+  pub balanced : check nothingOpen (eventRowsIn count events) ≡ some nothingOpen
   pub classes-long : length (t .classes) ≡ 1024
   pub classes-are : Front (nameClasses (t .doc) (nameRowsIn rows (t .names))) (t .classes)
   pub qclasses-long : length (t .qclasses) ≡ 1024
   pub qclasses-are : Front (qnameClasses (t .doc) (nameRowsIn rows (t .names)) (qnameRowsIn qrows (t .qnames))) (t .qclasses)
-
--- the events of the rows, names by text
-unfoldable pub eventsIn : Tables → List ℕ → ℕ → ℕ → ℕ → List Event
-eventsIn t events rows qrows count =
-    map (eventOf (t .doc) (nameRowsIn rows (t .names)) (qnameRowsIn qrows (t .qnames))) (eventRowsIn count events)

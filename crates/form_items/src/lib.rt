@@ -1,30 +1,32 @@
-// One row of events in the form: what it asks of the walk, its bytes, written or only counted, and what it defines.
+// One row of events in the form: what it asks of the walk, its bytes, written or only withUnits, and what it defines.
 ghost use mathlib.Core.Path.{_≡_};
 ghost use Prim.Native.Nat.{_+_, _*_, _≤_, _<_};
 ghost use lib.ListN.{length, getD};
 ghost use Rattle.token.specs.Entries.{Listed};
 ghost use Rattle.machine.specs.Rows.{event};
+ghost use Rattle.machine.specs.Tables.{NamesInside};
 ghost use Rattle.form_items.specs.Items.{itemBy, itemOf};
-ghost use Rattle.form_items.specs.Walk.{depthAfter, tables, baseAt, bytesFor, Ready, ItemFits, piBytes, Wrote, TextThere};
-ghost use Rattle.form.specs.Canonical.{counted, lengthOf, headerOf};
+ghost use Rattle.form_items.specs.Walk.{nestedAfter, tables, baseAt, bytesFor, Ready, ItemFits, piBytes, Wrote, TextThere};
+ghost use Rattle.form.specs.Canonical.{withUnits, lengthOf, headerOf};
 ghost use Rattle.form_output.specs.Output.{Fits, Put};
-ghost use Rattle.form_slots.specs.Slots.{Low, slotsAfter, Cleared};
+ghost use Rattle.form_slots.specs.Slots.{Low, slotsAfter, Cleared, slotCount, region};
 ghost use mathlib.Core.List.{[], _∷_, _++_};
 ghost use Rattle.sequences.specs.Lists.{part};
 ghost use Rattle.token.specs.Tokens.{shapeOf};
-ghost use Rattle.form_names.specs.Naming.{Texts};
+ghost use Rattle.token.specs.Codes.{NEST-TOKEN};
+ghost use Rattle.token.specs.Answers.{eventWidth};
 use token::Class;
 use value::Text;
 
 // What row i of the events asks.
 pub fn look(table: &[u16; 256], events: &[u32], i: usize) -> Item
-    requires { ⌜ Listed (now table) × (i < 4096) × (4 * i + 4 ≤ length (now events)) × (getD (now events) (4 * i) 0 < 256) ⌝ }
-    ensures { λ r. ⌜ r ≡ itemOf (event (getD (now (events .entry)) (4 * i) 0) (getD (now (events .entry)) (4 * i + 1) 0)
-        (getD (now (events .entry)) (4 * i + 2) 0) (getD (now (events .entry)) (4 * i + 3) 0)) ⌝ }
+    requires { ⌜ Listed (now table) × (i < 4096) × (eventWidth * i + eventWidth ≤ length (now events)) × (getD (now events) (eventWidth * i) 0 < 256) ⌝ }
+    ensures { λ r. ⌜ r ≡ itemOf (event (getD (now (events .entry)) (eventWidth * i) 0) (getD (now (events .entry)) (eventWidth * i + 1) 0)
+        (getD (now (events .entry)) (eventWidth * i + 2) 0) (getD (now (events .entry)) (eventWidth * i + 3) 0)) ⌝ }
 {
-    let code = slices::cell(events, 4 * i);
-    let a = slices::cell(events, 4 * i + 2);
-    let b = slices::cell(events, 4 * i + 3);
+    let code = slices::cell(events, token::EVENT_WIDTH * i);
+    let a = slices::cell(events, token::EVENT_WIDTH * i + 2);
+    let b = slices::cell(events, token::EVENT_WIDTH * i + 3);
     item_by(token::class_at(table, code as u8), code as u8, a, b)
 }
 
@@ -35,7 +37,7 @@ fn item_by(class: Class, token: u8, a: usize, b: usize) -> Item
     match class {
         Class::Unknown => Item::Byte(a),
         Class::Value => {
-            if token == 0x8C {
+            if token == token::XSD_QNAME {
                 Item::Refer { token, row: a }
             } else {
                 Item::Valued {
@@ -78,7 +80,7 @@ fn item_by(class: Class, token: u8, a: usize, b: usize) -> Item
 
 pub fn depth_after(item: Item, depth: usize) -> usize
     requires { ⌜ (depth ≤ 8) × (item ≡ Item.Leave → 1 ≤ depth) ⌝ }
-    ensures { λ r. ⌜ r ≡ depthAfter item depth ⌝ }
+    ensures { λ r. ⌜ r ≡ nestedAfter item depth ⌝ }
 {
     match item {
         Item::Byte(_) => depth,
@@ -143,8 +145,8 @@ fn put_byte(out: &mut [u8], at: usize, byte: u8) -> usize
 
 fn put_texted(doc: &[u8], out: &mut [u8], at: usize, token: u8, place: usize, units: usize) -> usize
     requires { ⌜ (place + 2 * units ≤ length (now doc)) × (length (now doc) ≤ 65536) × (at ≤ 1000000000000)
-        × Fits (length (now out)) at (length (token ∷ counted (part (now doc) place (2 * units)))) ⌝ }
-    ensures { λ r. ⌜ Put (now (out .entry)) (now (out .exit)) at r (token ∷ counted (part (now (doc .entry)) place (2 * units))) ⌝ }
+        × Fits (length (now out)) at (length (token ∷ withUnits (part (now doc) place (2 * units)))) ⌝ }
+    ensures { λ r. ⌜ Put (now (out .entry)) (now (out .exit)) at r (token ∷ withUnits (part (now (doc .entry)) place (2 * units))) ⌝ }
 {
     form_output::put(out, at, token);
     form_bytes::put_text(doc, place, units, out, at + 1)
@@ -174,21 +176,21 @@ fn put_pi(
     doc: &[u8],
     names: &[u32],
     out: &mut [u8],
-    slots: &mut [u32; 9225],
+    slots: &mut [u32; form_slots::SLOTS],
     rows: usize,
     at: usize,
     base: usize,
     class: usize,
     start: usize,
 ) -> usize
-    requires { ⌜ Texts (now doc) (now names) rows × (class ≤ rows) × (base + 1025 ≤ 9225) × Low 15000 (now slots) × (at ≤ 900000000000)
+    requires { ⌜ NamesInside (now doc) (now names) rows × (class ≤ rows) × (base + region ≤ slotCount) × Low 15000 (now slots) × (at ≤ 900000000000)
         × TextThere (now doc) start
         × Fits (length (now out)) at (length (piBytes (tables (now doc) (now names) [] [] []) (now slots) base class start)) ⌝ }
     ensures { λ r. ⌜ Put (now (out .entry)) (now (out .exit)) at r (piBytes (tables (now (doc .entry)) (now (names .entry)) [] [] []) (now (slots .entry)) base class start)
         × (now (slots .exit) ≡ slotsAfter (now (slots .entry)) base class) ⌝ }
 {
     let p = form_names::define_name(doc, names, out, slots, rows, at, base, class);
-    form_output::put(out, p, 0xF4);
+    form_output::put(out, p, token::PI_TOKEN);
     let x = form_output::put_number(out, p + 1, form_slots::number_in(slots, base, class));
     match value::text_at(doc, start, 5) {
         Text::Is { place, units } => form_bytes::put_text(doc, place, units, out, x),
@@ -202,19 +204,19 @@ fn put_pi(
 // A nested document begins: its header, and nothing defined.
 fn put_nest(
     out: &mut [u8],
-    slots: &mut [u32; 9225],
-    qslots: &mut [u32; 9225],
+    slots: &mut [u32; form_slots::SLOTS],
+    qslots: &mut [u32; form_slots::SLOTS],
     at: usize,
     base: usize,
     version: u8,
 ) -> usize
-    requires { ⌜ (at ≤ 1000000000000) × (base + 1025 ≤ 9225) × (length (now slots) ≡ 9225) × (length (now qslots) ≡ 9225) ⌝ }
-    ensures { λ r. ⌜ Put (now (out .entry)) (now (out .exit)) at r (0xEC ∷ headerOf version)
+    requires { ⌜ (at ≤ 1000000000000) × (base + region ≤ slotCount) × (length (now slots) ≡ slotCount) × (length (now qslots) ≡ slotCount) ⌝ }
+    ensures { λ r. ⌜ Put (now (out .entry)) (now (out .exit)) at r (NEST-TOKEN ∷ headerOf version)
         × Cleared (now (slots .entry)) (now (slots .exit)) base × Cleared (now (qslots .entry)) (now (qslots .exit)) base ⌝ }
 {
     form_slots::clear(slots, base);
     form_slots::clear(qslots, base);
-    form_output::put(out, at, 0xEC);
+    form_output::put(out, at, token::NEST_TOKEN);
     form_bytes::put_header(out, at + 1, version)
 }
 
@@ -224,11 +226,11 @@ pub fn write(
     doc: &[u8],
     names: &[u32],
     qnames: &[u32],
-    classes: &[u32; 1024],
-    qclasses: &[u32; 1024],
+    classes: &[u32; token::NAME_ROWS],
+    qclasses: &[u32; token::QNAME_ROWS],
     out: &mut [u8],
-    slots: &mut [u32; 9225],
-    qslots: &mut [u32; 9225],
+    slots: &mut [u32; form_slots::SLOTS],
+    qslots: &mut [u32; form_slots::SLOTS],
     rows: usize,
     qrows: usize,
     w: Spot,
@@ -242,7 +244,7 @@ pub fn write(
         (now (slots .entry)) (now (qslots .entry)) (now (out .entry)) (now (slots .exit)) (now (qslots .exit)) (now (out .exit)) w item r ⌝ }
 {
     let at = w.at;
-    let base = 1025 * w.depth;
+    let base = form_slots::REGION * w.depth;
     match item {
         Item::Byte(value) => put_byte(out, at, value as u8),
         Item::Texted {
@@ -251,12 +253,12 @@ pub fn write(
             units,
         } => put_texted(doc, out, at, token, place, units),
         Item::Pi { row, start } => {
-            let class = form_slots::class_at(classes, row);
+            let class = classes::class_at(classes, row) as usize;
             put_pi(doc, names, out, slots, rows, at, base, class, start)
         }
         Item::Refer { token, row } => {
             let q = form_slots::parts_at(qnames, classes, row - 1);
-            let class = form_slots::class_at(qclasses, row);
+            let class = classes::class_at(qclasses, row) as usize;
             form_names::refer(
                 doc,
                 names,
@@ -272,7 +274,14 @@ pub fn write(
             )
         }
         Item::Valued { token, place, size } => put_valued(table, doc, out, at, token, place, size),
-        Item::Nest(version) => put_nest(out, slots, qslots, at, base + 1025, version as u8),
-        Item::Leave => put_byte(out, at, 0xEB),
+        Item::Nest(version) => put_nest(
+            out,
+            slots,
+            qslots,
+            at,
+            base + form_slots::REGION,
+            version as u8,
+        ),
+        Item::Leave => put_byte(out, at, token::ENDNEST_TOKEN),
     }
 }

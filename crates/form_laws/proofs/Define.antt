@@ -7,15 +7,16 @@ use mathlib.Core.List.{List, [], _∷_, _++_, append-assoc}
 use native.Mathlib.Numerals.{add-one}
 use native.Mathlib.Omega.{arith}
 use lib.ListN.{length, getD, drop, length-append}
+use Rattle.sequences.specs.Lists.{same}
 use Rattle.token.specs.Answers.{largest}
-use Rattle.modes.specs.Modes.{content, listing, declares, afterMetadata}
+use Rattle.modes.specs.Modes.{content, listing, inDeclaration, afterMetadata}
 use Rattle.modes.specs.declared.Mode.{Mode}
 use Rattle.scan.specs.declared.Room.{Room}
 use Rattle.machine.specs.Rows.{NameRow, QnameRow, nameRow, qnameRow}
 use Rattle.machine.specs.Machine.{State, rowOf}
 use Rattle.machine.specs.Events.{nameText}
-use Rattle.form.specs.Places.{Triple, triple, sameText, sameTriple, place, absent, fresh, numberOf, grownIf, grown}
-use Rattle.form.specs.Canonical.{counted, defined, Scopes, scopes, definition, withTexts, definitions, qnameBytes, qnameDefinition, withQname}
+use Rattle.form.specs.Places.{Triple, triple, sameTriple, place, absent, fresh, numberOf, grownIf, grown}
+use Rattle.form.specs.Canonical.{withUnits, defined, Scopes, scopes, definition, withTexts, definitions, qnameBytes, qnameDefinition, withQname}
 use Rattle.form.proofs.Places.{tells-text, tells-triple}
 use Rattle.grammar.specs.Points.{named, qnamed}
 use Rattle.grammar.specs.Grammar.{a-namedef, namedef, a-qnamedef, qnamedef}
@@ -31,13 +32,13 @@ use Rattle.form_laws.proofs.Scopes.{Onto, onto-same, onto-on, onto-name
 
 -- metadata may stand here
 pub record Metas (m : Mode) : Type 0 where
-  pub outside : declares m ≡ false
+  pub outside : inDeclaration m ≡ false
   pub may : (content m || listing m) ≡ true
 
 pub metas-alike : {m m′ : Mode} → Alike m m′ → Metas m → Metas m′
 metas-alike a h = record { outside = a .declarations ∙ h .outside; may = rw (a .contents, a .listings) (h .may) }
 
-fresh-absent : (c : List (List ℕ)) (t : List ℕ) → fresh c t ≡ true → absent sameText c t ≡ true
+fresh-absent : (c : List (List ℕ)) (t : List ℕ) → fresh c t ≡ true → absent same c t ≡ true
 unfolding fresh
 fresh-absent c [] e = clash (cc)
 fresh-absent c (x ∷ t) e = e
@@ -127,8 +128,8 @@ module _ (d : List ℕ) (N : List NameRow) (Q : List QnameRow) (d′ : List ℕ)
 
   -- ---- a name
 
-  define-new : {s s′ : State} {σ : Scopes} {G : Ghost} {w : List ℕ} (t : List ℕ) → Fit t → Has (nameIs d N) (G .mine) t → absent sameText (σ .here .names) t ≡ true
-      → Metas (s′ .mode) → Sim s s′ σ G (0xF0 ∷ (counted t ++ w)) → Ready s s′ (scopes (defined (σ .here .names ++ (t ∷ [])) (σ .here .qnames)) (σ .outer)) G w
+  define-new : {s s′ : State} {σ : Scopes} {G : Ghost} {w : List ℕ} (t : List ℕ) → Fit t → Has (nameIs d N) (G .mine) t → absent same (σ .here .names) t ≡ true
+      → Metas (s′ .mode) → Sim s s′ σ G (0xF0 ∷ (withUnits t ++ w)) → Ready s s′ (scopes (defined (σ .here .names ++ (t ∷ [])) (σ .here .qnames)) (σ .outer)) G w
   unfolding nameText
   define-new {s} {s′} {σ} {G} {w} t f h a m S =
       let b = drop-byte d′ (s′ .at) (S .left) in
@@ -154,7 +155,7 @@ module _ (d : List ℕ) (N : List NameRow) (Q : List QnameRow) (d′ : List ℕ)
                   record {
                     version = one .version;
                     elements = one .elements;
-                    names = half-form (nameIs d N) (λ M P. nameIs d′ M) t (length A + 1) on (rw length-append (omega arith)) (absent-not sameText tells-text (σ .here .names) t a) h new (one .names);
+                    names = half-form (nameIs d N) (λ M P. nameIs d′ M) t (length A + 1) on (rw length-append (omega arith)) (absent-not same tells-text (σ .here .names) t a) h new (one .names);
                     qnames = half-grows (rowTriple d N Q) (rowTriple d′) on (omega arith) (one .qnames);
                     parts = one .parts;
                   };
@@ -172,7 +173,7 @@ module _ (d : List ℕ) (N : List NameRow) (Q : List QnameRow) (d′ : List ℕ)
   unfolding definition grown grownIf
   define {s} {s′} {σ} {G} {w} t a m S = go (fresh (σ .here .names) t) refl (S .left)
     where
-      go : (b : Bool) → fresh (σ .here .names) t ≡ b → drop (s′ .at) d′ ≡ cond b (0xF0 ∷ counted t) [] ++ w
+      go : (b : Bool) → fresh (σ .here .names) t ≡ b → drop (s′ .at) d′ ≡ cond b (0xF0 ∷ withUnits t) [] ++ w
           → Ready s s′ (scopes (defined (cond b (σ .here .names ++ (t ∷ [])) (σ .here .names)) (σ .here .qnames)) (σ .outer)) G w
       go true e l = define-new t (among-fit a) (among-has (σ .here .names) e a) (fresh-absent (σ .here .names) t e) m (with-left S l)
       go false e l = ready-now (with-left S l)
@@ -188,9 +189,9 @@ module _ (d : List ℕ) (N : List NameRow) (Q : List QnameRow) (d′ : List ℕ)
   unfolding fresh numberOf nameText
   named-by h [] e = record { low = omega arith; says = λ M P y. refl }
   named-by {known′ = known′} {c = c} h (b ∷ t) e =
-      let x = stands sameText tells-text c (b ∷ t) e in
-      let y = half-at (nameIs d N) (λ M P. nameIs d′ M) h (place sameText c (b ∷ t)) (x .1) in
-      record { low = omega (arith, y .0); says = λ M P z. let i = y .1 M P z in (let j : nameText d′ M (getD known′ (place sameText c (b ∷ t)) 0) ≡ b ∷ t = cc in j) }
+      let x = stands same tells-text c (b ∷ t) e in
+      let y = half-at (nameIs d N) (λ M P. nameIs d′ M) h (place same c (b ∷ t)) (x .1) in
+      record { low = omega (arith, y .0); says = λ M P z. let i = y .1 M P z in (let j : nameText d′ M (getD known′ (place same c (b ∷ t)) 0) ≡ b ∷ t = cc in j) }
 
   -- ---- a qname, whose texts are defined
 

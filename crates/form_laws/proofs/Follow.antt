@@ -8,6 +8,7 @@ use native.Mathlib.Omega.{arith}
 use lib.Dec.{eqb}
 use lib.ListN.{length, drop, length-append}
 use Rattle.sequences.specs.Lists.{part}
+use Rattle.sequences.specs.Members.{In, here}
 use Rattle.sequences.proofs.Overlay.{part-length}
 use Rattle.number.specs.Number.{shortest}
 use Rattle.value.specs.Fields.{textAt}
@@ -22,7 +23,7 @@ use Rattle.machine.specs.Machine as machine
 use Rattle.machine.specs.Events.{Event, plain, nameText, qnameEvent, eventOf}
 use Rattle.machine.specs.Events as events
 use Rattle.form.specs.Places.{Triple, sameTriple, place, qnumberOf}
-use Rattle.form.specs.Canonical.{counted, Scopes, emit, onward, body, qnameDefinition}
+use Rattle.form.specs.Canonical.{withUnits, Scopes, emit, scopesAfter, body, qnameDefinition}
 use Rattle.grammar.specs.Fields.{Byte}
 use Rattle.grammar.specs.Points.{Point, evented, ended, referred}
 use Rattle.grammar.specs.Grammar.{TextToken, texttoken, Qname}
@@ -30,7 +31,7 @@ use Rattle.grammar.proofs.Leaves.{number-found}
 use Rattle.grammar.proofs.Sound.{pointOf}
 use Rattle.grammar.proofs.Steps.{stateOf, _⨾_}
 use Rattle.grammar.proofs.Ends.{allOpen, allNested}
-use Rattle.form_laws.proofs.Lists.{drop-byte, Mem, here, mem-getD}
+use Rattle.form_laws.proofs.Lists.{drop-byte, in-getD}
 use Rattle.form_laws.proofs.Written.{Fit, number-at, text-at}
 use Rattle.form_laws.proofs.Modes.{Earlier, earlier-equal, Alike, alike-on, alike-earlier}
 use Rattle.form_laws.proofs.Texts.{qname-there}
@@ -45,9 +46,9 @@ text-fit d p {place} {units} e =
     record { even = rw n (omega arith); small = rw n (omega (arith, l .2)) }
 
 -- the row of a number that is known
-pub known-row : (known : List ℕ) (n : ℕ) → 1 ≤ n → n ≤ length known → Mem (rowOf known n) known
+pub known-row : (known : List ℕ) (n : ℕ) → 1 ≤ n → n ≤ length known → In (rowOf known n) known
 known-row known zero l h = absurd (let q : ⊥ = omega arith in q)
-known-row known (suc k) l h = mem-getD known k (omega arith)
+known-row known (suc k) l h = in-getD known k (omega arith)
 
 -- a token's rows are told by its texts
 abbrev pub TextTold : ℕ → Type 0
@@ -122,9 +123,9 @@ module _ (d : List ℕ) (N : List NameRow) (Q : List QnameRow) (d′ : List ℕ)
 
   -- the bytes of an event, once it is known
   pub told : {s s′ : State} {σ : Scopes} {G : Ghost} (rs : List EventRow) (r : EventRow) {e : Event} → tell r ≡ e
-      → Sim d N Q d′ room fit s s′ σ G (body σ (map tell (r ∷ rs))) → drop (s′ .at) d′ ≡ emit (σ .here) e ++ body (onward σ e) (map tell rs)
+      → Sim d N Q d′ room fit s s′ σ G (body σ (map tell (r ∷ rs))) → drop (s′ .at) d′ ≡ emit (σ .here) e ++ body (scopesAfter σ e) (map tell rs)
   unfolding body
-  told {σ = σ} rs r h S = S .left ∙ ap (λ (x : Event). emit (σ .here) x ++ body (onward σ x) (map tell rs)) h
+  told {σ = σ} rs r h S = S .left ∙ ap (λ (x : Event). emit (σ .here) x ++ body (scopesAfter σ x) (map tell rs)) h
 
   -- an event after which the same documents are open; `el` elements in the innermost
   pub on-event : {s s′ : State} {σ : Scopes} {G : Ghost} {w : List ℕ} {rs : List EventRow} (r r′ : EventRow) (m m′ : Mode) (el el′ next next′ : ℕ)
@@ -155,7 +156,7 @@ module _ (d : List ℕ) (N : List NameRow) (Q : List QnameRow) (d′ : List ℕ)
       let r : EventRow = event token (s .at) place units in
       let h : tell r ≡ events.texted k (part d place (2 * units)) = rw i (says d N Q (s .at) place units) in
       let t = part d place (2 * units) in
-      let left : drop (s′ .at) d′ ≡ k ∷ (counted t ++ body σ (map tell rs)) = told rs r h S in
+      let left : drop (s′ .at) d′ ≡ k ∷ (withUnits t ++ body σ (map tell rs)) = told rs r h S in
       let b = drop-byte d′ (s′ .at) left in
       let x = text-at d′ (s′ .at + 1) t (body σ (map tell rs)) (text-fit d (s .at + 1) e) (b .1) in
       on-event r (event k (s′ .at) (x .place) (length t / 2)) m (to (s′ .mode)) (s .here .elements) (s′ .here .elements) (place + 2 * units) (x .place + 2 * (length t / 2)) S (S .here .elements)
@@ -195,7 +196,7 @@ module _ (d : List ℕ) (N : List NameRow) (Q : List QnameRow) (d′ : List ℕ)
       let q : Triple = p .says in
       let r : EventRow = event token (s .at) row 0 in
       let h : tell r ≡ events.qnamed k (q .uri) (q .prefix) (q .local) = rw i (says d N Q (s .at) row 0 ∙ qname-says d N Q k row (p .is)) in
-      let σ′ = onward σ (events.qnamed k (q .uri) (q .prefix) (q .local)) in
+      let σ′ = scopesAfter σ (events.qnamed k (q .uri) (q .prefix) (q .local)) in
       let j = place sameTriple (σ .here .qnames) q in
       let left : drop (s′ .at) d′ ≡ qnameDefinition (σ .here) q ++ (k ∷ (shortest (suc j) ++ body σ′ (map tell rs))) =
       told rs r h S ∙ append-assoc (qnameDefinition (σ .here) q) (k ∷ shortest (suc j)) (body σ′ (map tell rs)) in

@@ -9,6 +9,8 @@ use native.Mathlib.Omega.{arith}
 use lib.ListN.{length, getElem?, getD, drop, length-append}
 use lib.Seq.{drop-drop, take-append-seam, drop-append-seam}
 use Rattle.sequences.specs.Lists.{part}
+use Rattle.sequences.specs.Members.{In, here, there}
+use Rattle.sequences.proofs.Members.{in-left}
 use Rattle.grammar.specs.Fields.{Byte}
 
 -- two constructors are never equal
@@ -53,57 +55,49 @@ drop-none (x ∷ d) (suc p) e = let h = drop-none d p e in omega arith
 
 -- ---- elements
 
-pub data Mem {A : Type 0} (x : A) : List A → Type 0 where
-  here : {l : List A} → Mem x (x ∷ l)
-  there : {y : A} {l : List A} → Mem x l → Mem x (y ∷ l)
-
 module _ {A : Type 0} where
   pub data Distinct : List A → Type 0 where
     alone : Distinct []
-    apart : {x : A} {l : List A} → (Mem x l → ⊥) → Distinct l → Distinct (x ∷ l)
+    apart : {x : A} {l : List A} → (In x l → ⊥) → Distinct l → Distinct (x ∷ l)
 
-  pub mem-left : {x : A} {a : List A} (b : List A) → Mem x a → Mem x (a ++ b)
-  mem-left b here = here
-  mem-left b (there m) = there (mem-left b m)
+  pub in-last : (x : A) (a : List A) → In x (a ++ (x ∷ []))
+  in-last x [] = here
+  in-last x (y ∷ a) = there (in-last x a)
 
-  pub mem-last : (x : A) (a : List A) → Mem x (a ++ (x ∷ []))
-  mem-last x [] = here
-  mem-last x (y ∷ a) = there (mem-last x a)
-
-  pub mem-snoc : (x : A) (a : List A) (y : A) → Mem x (a ++ (y ∷ [])) → Mem x a ⊎ (x ≡ y)
-  mem-snoc x [] y here = inr refl
-  mem-snoc x [] y (there m) = elim m [ ]
-  mem-snoc x (z ∷ a) y here = inl here
-  mem-snoc x (z ∷ a) y (there m) = more (mem-snoc x a y m)
+  pub in-snoc : (x : A) (a : List A) (y : A) → In x (a ++ (y ∷ [])) → In x a ⊎ (x ≡ y)
+  in-snoc x [] y here = inr refl
+  in-snoc x [] y (there m) = elim m [ ]
+  in-snoc x (z ∷ a) y here = inl here
+  in-snoc x (z ∷ a) y (there m) = more (in-snoc x a y m)
     where
-      more : Mem x a ⊎ (x ≡ y) → Mem x (z ∷ a) ⊎ (x ≡ y)
+      more : In x a ⊎ (x ≡ y) → In x (z ∷ a) ⊎ (x ≡ y)
       more (inl i) = inl (there i)
       more (inr e) = inr e
 
-  pub distinct-snoc : (a : List A) (y : A) → Distinct a → (Mem y a → ⊥) → Distinct (a ++ (y ∷ []))
-  distinct-snoc [] y k n = apart (λ (m : Mem y []). elim m [ ]) alone
-  distinct-snoc (x ∷ a) y (apart m k) n = apart (λ i. other (mem-snoc x a y i)) (distinct-snoc a y k (λ i. n (there i)))
+  pub distinct-snoc : (a : List A) (y : A) → Distinct a → (In y a → ⊥) → Distinct (a ++ (y ∷ []))
+  distinct-snoc [] y k n = apart (λ (m : In y []). elim m [ ]) alone
+  distinct-snoc (x ∷ a) y (apart m k) n = apart (λ i. other (in-snoc x a y i)) (distinct-snoc a y k (λ i. n (there i)))
     where
-      other : Mem x a ⊎ (x ≡ y) → ⊥
+      other : In x a ⊎ (x ≡ y) → ⊥
       other (inl i) = m i
       other (inr e) = n (rw e here)
 
   -- an element stands at some place
-  pub mem-place : {x : A} {l : List A} → Mem x l → (k : ℕ) × (getElem? l k ≡ some x)
-  mem-place here = (0, refl)
-  mem-place (there m) = let h = mem-place m in (suc (h .0), h .1)
+  pub in-place : {x : A} {l : List A} → In x l → (k : ℕ) × (getElem? l k ≡ some x)
+  in-place here = (0, refl)
+  in-place (there m) = let h = in-place m in (suc (h .0), h .1)
 
   -- a list without one of its elements
-  unfoldable without : {x : A} {l : List A} → Mem x l → List A
+  unfoldable without : {x : A} {l : List A} → In x l → List A
   without (here {l = l}) = l
   without (there {y = y} m) = y ∷ without m
 
-  length-without : {x : A} {l : List A} (m : Mem x l) → suc (length (without m)) ≡ length l
+  length-without : {x : A} {l : List A} (m : In x l) → suc (length (without m)) ≡ length l
   unfolding without
   length-without here = refl
   length-without (there m) = ap suc (length-without m)
 
-  still : {x y : A} {l : List A} (m : Mem x l) → Mem y l → (x ≡ y → ⊥) → Mem y (without m)
+  still : {x y : A} {l : List A} (m : In x l) → In y l → (x ≡ y → ⊥) → In y (without m)
   unfolding without
   still here here n = absurd (n refl)
   still here (there i) n = i
@@ -111,32 +105,32 @@ module _ {A : Type 0} where
   still (there m) (there i) n = there (still m i n)
 
 -- the element of a list at a number
-pub mem-getD : (l : List ℕ) (k : ℕ) → k < length l → Mem (getD l k 0) l
-mem-getD [] k h = absurd (let q : ⊥ = omega arith in q)
-mem-getD (x ∷ l) zero h = here
-mem-getD (x ∷ l) (suc k) h = there (mem-getD l k (omega arith))
+pub in-getD : (l : List ℕ) (k : ℕ) → k < length l → In (getD l k 0) l
+in-getD [] k h = absurd (let q : ⊥ = omega arith in q)
+in-getD (x ∷ l) zero h = here
+in-getD (x ∷ l) (suc k) h = there (in-getD l k (omega arith))
 
 -- ---- values of rows
 
 -- a value of one of some rows
 pub record Has {Value : Type 0} (f : ℕ → Option Value) (rows : List ℕ) (v : Value) : Type 0 where
   pub row : ℕ
-  pub among : Mem row rows
+  pub among : In row rows
   pub says : f row ≡ some v
 
 module _ {Value : Type 0} (f : ℕ → Option Value) where
   pub has-more : {rows : List ℕ} {v : Value} (more : List ℕ) → Has f rows v → Has f (rows ++ more) v
-  has-more more h = record { row = h .row; among = mem-left more (h .among); says = h .says }
+  has-more more h = record { row = h .row; among = in-left more (h .among); says = h .says }
 
   -- distinct values of some rows are not more than the rows
-  pub not-more : (c : List Value) (rows : List ℕ) → Distinct c → ((v : Value) → Mem v c → Has f rows v) → length c ≤ length rows
+  pub not-more : (c : List Value) (rows : List ℕ) → Distinct c → ((v : Value) → In v c → Has f rows v) → length c ≤ length rows
   not-more [] rows k s = omega arith
   not-more (x ∷ c) rows (apart n k) s =
       let m = s x here in
       let h = not-more c (without (m .among)) k (λ y i. rest y i (s y (there i))) in
       omega (arith, length-without (m .among))
     where
-      rest : (y : Value) → Mem y c → Has f rows y → Has f (without (s x here .among)) y
+      rest : (y : Value) → In y c → Has f rows y → Has f (without (s x here .among)) y
       rest y i h =
           record {
             row = h .row;

@@ -4,7 +4,7 @@ use mathlib.Core.Path.{_≡_, refl, _∙_}
 use mathlib.Core.Logic.{_⊎_, inl, inr}
 use mathlib.Core.Bool.{true}
 use Rattle.token.specs.declared.Class.{Class}
-use Rattle.modes.specs.Modes.{content, listing, declares, is, allowed, afterMetadata, afterMisc, afterValue}
+use Rattle.modes.specs.Modes.{content, listing, inDeclaration, is, allowed, afterMetadata, afterMisc, afterValue}
 use Rattle.modes.specs.declared.Mode.{Mode}
 use Rattle.modes.specs.declared.Mode.the-variants.{Content, Tag, First, Prolog, AfterDocType, AfterSystem, AfterPublic, Attributes, Cdata, AfterXmlDecl, AfterEncoding}
 use Rattle.modes.specs.declared.View.{View}
@@ -24,13 +24,13 @@ pub data Earlier : Mode → Mode → Type 0 where
 pub record Alike (m m′ : Mode) : Type 0 where
   pub contents : content m′ ≡ content m
   pub listings : listing m′ ≡ listing m
-  pub declarations : declares m′ ≡ declares m
+  pub declarations : inDeclaration m′ ≡ inDeclaration m
   pub tags : is m′ Tag ≡ is m Tag
   pub sections : is m′ Cdata ≡ is m Cdata
   pub miscs : afterMisc m′ ≡ afterMisc m
   pub values : afterValue m′ ≡ afterValue m
 
-alike : {m m′ : Mode} → content m′ ≡ content m → listing m′ ≡ listing m → declares m′ ≡ declares m → is m′ Tag ≡ is m Tag → is m′ Cdata ≡ is m Cdata
+alike : {m m′ : Mode} → content m′ ≡ content m → listing m′ ≡ listing m → inDeclaration m′ ≡ inDeclaration m → is m′ Tag ≡ is m Tag → is m′ Cdata ≡ is m Cdata
     → afterMisc m′ ≡ afterMisc m → afterValue m′ ≡ afterValue m → Alike m m′
 alike a b c d e f g = record { contents = a; listings = b; declarations = c; tags = d; sections = e; miscs = f; values = g }
 
@@ -95,14 +95,14 @@ earlier-metadata public = public
 pub earlier-equal : {m m′ : Mode} → m′ ≡ m → Earlier m m′
 earlier-equal e = rw e same
 
-pub earlier-declares : {m m′ : Mode} → Earlier m m′ → declares m ≡ true → m′ ≡ m
+pub earlier-declares : {m m′ : Mode} → Earlier m m′ → inDeclaration m ≡ true → m′ ≡ m
 earlier-declares same e = refl
 earlier-declares at-first e = clash (cc)
 earlier-declares typed e = clash (cc)
 earlier-declares system e = clash (cc)
 earlier-declares public e = clash (cc)
 
-pub declaring : (m : Mode) → declares m ≡ true → (m ≡ AfterXmlDecl) ⊎ (m ≡ AfterEncoding)
+pub declaring : (m : Mode) → inDeclaration m ≡ true → (m ≡ AfterXmlDecl) ⊎ (m ≡ AfterEncoding)
 declaring Content e = clash (cc)
 declaring Tag e = clash (cc)
 declaring First e = clash (cc)

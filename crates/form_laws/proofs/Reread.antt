@@ -7,6 +7,7 @@ use mathlib.Core.List.{List, [], _∷_, map}
 use native.Mathlib.Omega.{arith}
 use lib.ListN.{length, getElem?, drop}
 use borrow.Author.Tests.{le-ltb}
+use Rattle.sequences.specs.Members.{Every, first, In}
 use Rattle.sequences.proofs.Overlay.{part-length}
 use Rattle.token.specs.Answers.{accepted, longest, nameRows, qnameRows}
 use Rattle.modes.specs.Modes.{content}
@@ -16,8 +17,7 @@ use Rattle.scan.specs.declared.Step.the-variants as step
 use Rattle.machine.specs.Rows.{NameRow, EventRow}
 use Rattle.machine.specs.Machine.{State, view, started, reading}
 use Rattle.machine.specs.Events.{textIn, nameText, eventOf, eventsOf}
-use Rattle.machine.specs.Facts as facts
-use Rattle.machine.specs.Facts.{Every, NameFits}
+use Rattle.machine.specs.Facts.{NameFits}
 use Rattle.machine.proofs.Trace as traces
 use Rattle.machine.proofs.Trace.{Trace, Stopped, stops-reading}
 use Rattle.machine.proofs.Readings.{accepted-ends}
@@ -31,7 +31,6 @@ use Rattle.grammar.proofs.Steps.{Fits, Path}
 use Rattle.grammar.proofs.Ends.{same-end, allOpen, allNested}
 use Rattle.grammar.proofs.Exact.{accepted-derives}
 use Rattle.form_laws.specs.Forms.{eventsRead, tokensRead}
-use Rattle.form_laws.proofs.Lists.{Mem}
 use Rattle.form_laws.proofs.Written.{Fit}
 use Rattle.form_laws.proofs.Modes.{same}
 use Rattle.form_laws.proofs.Scopes.{nameIs, rowTriple, half-none, outermost}
@@ -47,11 +46,11 @@ text-fits d N l h (suc k) = go N h k
   where
     go : (M : List NameRow) → Every (NameFits (length d)) M → (k : ℕ) → Fit (textIn d (getElem? M k))
     go [] h k = record { even = omega arith; small = omega arith }
-    go (r ∷ M) (facts.first f h) zero =
+    go (r ∷ M) (first f h) zero =
         let n = part-length d (r .place) (2 * r .units) (f .inside) in
         let i = f .inside in
         record { even = rw n (omega arith); small = rw n (omega arith) }
-    go (r ∷ M) (facts.first f h) (suc k) = go M h k
+    go (r ∷ M) (first f h) (suc k) = go M h k
 
 header-in : {d : List ℕ} {m : Depth} {version : ℕ} {s t : Point} → Document d m version s t → Header d (s .at) version
 header-in (document h x y z c) = h
@@ -109,7 +108,7 @@ module _ (d f : List ℕ) (room : Room) (n : room .names ≤ nameRows) (q : room
               elements = refl;
               names = half-none (nameIs d (u .names)) (λ M P. nameIs f M) _ _ _;
               qnames = half-none (rowTriple d (u .names) (u .qnames)) (rowTriple f) _ _ _;
-              parts = λ k (m : Mem k []). elim m [ ];
+              parts = λ k (m : In k []). elim m [ ];
             };
         outer = outermost;
         events = refl;

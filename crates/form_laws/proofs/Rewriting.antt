@@ -11,14 +11,14 @@ use Rattle.scan.specs.declared.Room.{Room}
 use Rattle.machine.specs.Rows.{EventRow}
 use Rattle.machine.specs.Machine.{reading}
 use Rattle.machine.specs.Events.{eventsOf}
-use Rattle.machine.specs.Balance.{Opened, closed, taken, onto, check}
+use Rattle.machine.specs.Balance.{Opened, nothingOpen, taken, andThen, check}
 use Rattle.form.specs.Canonical.{none-yet, body, canonical}
 use Rattle.grammar.specs.Points.{Point}
 use Rattle.grammar.specs.Grammar.{Depth, Document, document}
-use Rattle.grammar.specs.Accepts.{rowsIn, eventsIn}
+use Rattle.grammar.specs.Accepts.{rowsIn, eventsDerived}
 use Rattle.grammar.proofs.Unique.{at-most-one}
 use Rattle.grammar.proofs.Exact.{accepted-derives}
-use Rattle.form_laws.specs.Forms.{eventsRead, formOf, Formed, ReadsAgain}
+use Rattle.form_laws.specs.Forms.{eventsRead, formRead, Formed, ReadsAgain}
 use Rattle.form_laws.proofs.Lists.{clash}
 use Rattle.form_laws.proofs.Written.{header-at}
 use Rattle.form_laws.proofs.Reread.{reread}
@@ -31,8 +31,8 @@ pub read-again : (doc : List ℕ) (room : Room) → room .names ≤ nameRows →
 unfolding canonical
 read-again doc room n q F =
     let v = header-versions (accepted-derives doc room (F .number-is) .derived) in
-    let h = header-at (formOf doc room) 0 (reading doc room .version) (body none-yet (eventsRead doc room)) (v .0) (v .1) refl in
-    let r = reread doc (formOf doc room) room n q (F .number-is) (F .not-long) (h .0) (h .1) in
+    let h = header-at (formRead doc room) 0 (reading doc room .version) (body none-yet (eventsRead doc room)) (v .0) (v .1) refl in
+    let r = reread doc (formRead doc room) room n q (F .number-is) (F .not-long) (h .0) (h .1) in
     record {
       number-is = r .number-is;
       version-is = r .version-is;
@@ -43,7 +43,7 @@ read-again doc room n q F =
     }
 
 -- the form is its own form
-pub own-form : (doc : List ℕ) (room : Room) → room .names ≤ nameRows → room .qnames ≤ qnameRows → Formed doc room → formOf (formOf doc room) room ≡ formOf doc room
+pub own-form : (doc : List ℕ) (room : Room) → room .names ≤ nameRows → room .qnames ≤ qnameRows → Formed doc room → formRead (formRead doc room) room ≡ formRead doc room
 own-form doc room n q F = let r = read-again doc room n q F in rw (r .version-is, r .events-are)
 
 -- an accepted document has the same events and outer version with any tables
@@ -55,25 +55,25 @@ any-room doc room room′ a b =
     let y = accepted-derives doc room′ b in
     let e = at-most-one doc (x .derived) (x .whole) (y .derived) (y .whole) in
     let rows : rowsIn (reading doc room .final) ≡ rowsIn (reading doc room′ .final) = sym (x .rows-are) ∙ e .1 ∙ y .rows-are in
-    (ap (eventsIn doc) rows, e .0)
+    (ap (eventsDerived doc) rows, e .0)
 
 -- two forms are equal exactly where the events and the outer versions are
 pub same-forms : (doc doc′ : List ℕ) (room room′ : Room) → room .names ≤ nameRows → room .qnames ≤ qnameRows → room′ .names ≤ nameRows → room′ .qnames ≤ qnameRows
     → Formed doc room → Formed doc′ room′
-    → (formOf doc room ≡ formOf doc′ room′) ↔ ((eventsRead doc room ≡ eventsRead doc′ room′) × (reading doc room .version ≡ reading doc′ room′ .version))
+    → (formRead doc room ≡ formRead doc′ room′) ↔ ((eventsRead doc room ≡ eventsRead doc′ room′) × (reading doc room .version ≡ reading doc′ room′ .version))
 same-forms doc doc′ room room′ n q n′ q′ F F′ = (to, from)
   where
-    to : formOf doc room ≡ formOf doc′ room′ → (eventsRead doc room ≡ eventsRead doc′ room′) × (reading doc room .version ≡ reading doc′ room′ .version)
+    to : formRead doc room ≡ formRead doc′ room′ → (eventsRead doc room ≡ eventsRead doc′ room′) × (reading doc room .version ≡ reading doc′ room′ .version)
     to i =
         let a = read-again doc room n q F in
         let b = read-again doc′ room′ n′ q′ F′ in
-        let k : reading (formOf doc room) room′ .number ≡ accepted = ap (λ (f : List ℕ). reading f room′ .number) i ∙ b .number-is in
-        let e = any-room (formOf doc room) room room′ (a .number-is) k in (
+        let k : reading (formRead doc room) room′ .number ≡ accepted = ap (λ (f : List ℕ). reading f room′ .number) i ∙ b .number-is in
+        let e = any-room (formRead doc room) room room′ (a .number-is) k in (
           sym (a .events-are) ∙ e .0 ∙ ap (λ (f : List ℕ). eventsRead f room′) i ∙ b .events-are,
           sym (a .version-is) ∙ e .1 ∙ ap (λ (f : List ℕ). reading f room′ .version) i ∙ b .version-is,
         )
 
-    from : (eventsRead doc room ≡ eventsRead doc′ room′) × (reading doc room .version ≡ reading doc′ room′ .version) → formOf doc room ≡ formOf doc′ room′
+    from : (eventsRead doc room ≡ eventsRead doc′ room′) × (reading doc room .version ≡ reading doc′ room′ .version) → formRead doc room ≡ formRead doc′ room′
     from p = rw (p .0, p .1)
 
 -- the checker of what is open looks at tokens alone
@@ -87,12 +87,12 @@ same-check (suc k) (x ∷ l) (y ∷ m) e b =
     let j : map (λ (e : EventRow). e .token) l ≡ map (λ (e : EventRow). e .token) m = cc in
     rw i (go (taken (y .token) b) (λ c. same-check k l m j c))
   where
-    go : (o : Option Opened) → ((c : Opened) → check c (take k l) ≡ check c (take k m)) → onto (λ c. check c (take k l)) o ≡ onto (λ c. check c (take k m)) o
+    go : (o : Option Opened) → ((c : Opened) → check c (take k l) ≡ check c (take k m)) → andThen (λ c. check c (take k l)) o ≡ andThen (λ c. check c (take k m)) o
     go none f = refl
     go (some c) f = f c
 
 -- after as many events, the form has as much open as its source: no more elements, no more documents
 pub opened-as : (doc : List ℕ) (room : Room) → room .names ≤ nameRows → room .qnames ≤ qnameRows → Formed doc room → (k : ℕ)
-    → check closed (take k (reading (formOf doc room) room .final .events)) ≡ check closed (take k (reading doc room .final .events))
+    → check nothingOpen (take k (reading (formRead doc room) room .final .events)) ≡ check nothingOpen (take k (reading doc room .final .events))
 opened-as doc room n q F k =
-    same-check k (reading (formOf doc room) room .final .events) (reading doc room .final .events) (read-again doc room n q F .tokens-are) closed
+    same-check k (reading (formRead doc room) room .final .events) (reading doc room .final .events) (read-again doc room n q F .tokens-are) nothingOpen

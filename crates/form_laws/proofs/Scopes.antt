@@ -7,12 +7,14 @@ use mathlib.Core.Option.{Option, none, some}
 use mathlib.Core.List.{List, [], _∷_, _++_, map, append-assoc, append-nil}
 use native.Mathlib.Omega.{arith}
 use lib.ListN.{length, getElem?, getD, length-append, length-map}
+use Rattle.sequences.specs.Members.{In}
+use Rattle.sequences.proofs.Members.{in-left}
 use Rattle.machine.specs.Rows.{NameRow, QnameRow}
 use Rattle.machine.specs.Machine.{Scope, elementsIn}
 use Rattle.machine.specs.Events.{qnamed, nameText, qnameIn, qnameEvent}
 use Rattle.form.specs.Places.{Triple, triple}
 use Rattle.form.specs.Canonical.{Defined}
-use Rattle.form_laws.proofs.Lists.{clash, Mem, mem-left, mem-last, mem-snoc, Distinct, alone, distinct-snoc, Has, has-more, not-more, map-snoc, map-at, some-at}
+use Rattle.form_laws.proofs.Lists.{clash, in-last, in-snoc, Distinct, alone, distinct-snoc, Has, has-more, not-more, map-snoc, map-at, some-at}
 
 -- ---- rows that only grow
 
@@ -75,15 +77,15 @@ module _ {Value : Type 0} (f : ℕ → Option Value) (g : List NameRow → List 
   -- the source knows `known` of all its rows `mine`, flushed ones too; the form has defined the values `c`; whatever rows
   -- follow those of the form so far, its rows say these values
   pub record Half (A : List NameRow) (B : List QnameRow) (size : ℕ) (known known′ : List ℕ) (c : List Value) (mine : List ℕ) : Type 0 where
-    pub held : (r : ℕ) → Mem r known → Mem r mine
-    pub used : (v : Value) → Mem v c → Has f mine v
+    pub held : (r : ℕ) → In r known → In r mine
+    pub used : (v : Value) → In v c → Has f mine v
     pub once : Distinct c
     pub short : length c ≤ size
     pub values : (M : List NameRow) (P : List QnameRow) → Onto A B M P → map (g M P) known′ ≡ map some c
 
   pub half-none : (A : List NameRow) (B : List QnameRow) (size : ℕ) → Half A B size [] [] [] []
   half-none A B size =
-      record { held = λ r m. m; used = λ v (m : Mem v []). elim m [ ]; once = alone; short = omega arith; values = λ M P y. refl }
+      record { held = λ r m. m; used = λ v (m : In v []). elim m [ ]; once = alone; short = omega arith; values = λ M P y. refl }
 
   module _ {A : List NameRow} {B : List QnameRow} {size : ℕ} {known known′ : List ℕ} {c : List Value} {mine : List ℕ} where
     pub half-grows : {M : List NameRow} {P : List QnameRow} {more : ℕ} → Onto A B M P → size ≤ more → Half A B size known known′ c mine → Half M P more known known′ c mine
@@ -110,34 +112,34 @@ module _ {Value : Type 0} (f : ℕ → Option Value) (g : List NameRow → List 
     pub half-source : (a : ℕ) → Half A B size known known′ c mine → Half A B size (known ++ (a ∷ [])) known′ c (mine ++ (a ∷ []))
     half-source a h =
         record {
-          held = λ r m. or r (mem-snoc r known a m);
+          held = λ r m. or r (in-snoc r known a m);
           used = λ v m. has-more f (a ∷ []) (h .used v m);
           once = h .once;
           short = h .short;
           values = h .values;
         }
       where
-        or : (r : ℕ) → Mem r known ⊎ (r ≡ a) → Mem r (mine ++ (a ∷ []))
-        or r (inl m) = mem-left (a ∷ []) (h .held r m)
-        or r (inr e) = rw e (mem-last a mine)
+        or : (r : ℕ) → In r known ⊎ (r ≡ a) → In r (mine ++ (a ∷ []))
+        or r (inl m) = in-left (a ∷ []) (h .held r m)
+        or r (inr e) = rw e (in-last a mine)
 
     pub half-flush : Half A B size known known′ c mine → Half A B size [] known′ c mine
-    half-flush h = record { held = λ r (m : Mem r []). elim m [ ]; used = h .used; once = h .once; short = h .short; values = h .values }
+    half-flush h = record { held = λ r (m : In r []). elim m [ ]; used = h .used; once = h .once; short = h .short; values = h .values }
 
     -- the form defines a value more, in a row of its own
-    pub half-form : {M : List NameRow} {P : List QnameRow} {more : ℕ} (v : Value) (row : ℕ) → Onto A B M P → size + 1 ≤ more → (Mem v c → ⊥) → Has f mine v
+    pub half-form : {M : List NameRow} {P : List QnameRow} {more : ℕ} (v : Value) (row : ℕ) → Onto A B M P → size + 1 ≤ more → (In v c → ⊥) → Has f mine v
         → ((M′ : List NameRow) (P′ : List QnameRow) → Onto M P M′ P′ → g M′ P′ row ≡ some v)
         → Half A B size known known′ c mine → Half M P more known (known′ ++ (row ∷ [])) (c ++ (v ∷ [])) mine
     half-form {more = more} v row x l n i new h =
         record {
           held = h .held;
-          used = λ y m. or y (mem-snoc y c v m);
+          used = λ y m. or y (in-snoc y c v m);
           once = distinct-snoc c v (h .once) n;
           short = rw length-append (omega (arith, h .short));
           values = λ M P y. rw (map-snoc (g M P) known′ row, map-snoc some c v, h .values M P (onto-on x y), new M P y);
         }
       where
-        or : (y : Value) → Mem y c ⊎ (y ≡ v) → Has f mine y
+        or : (y : Value) → In y c ⊎ (y ≡ v) → Has f mine y
         or y (inl m) = h .used y m
         or y (inr e) = rw e i
 
@@ -170,7 +172,7 @@ module _ (d : List ℕ) (N : List NameRow) (Q : List QnameRow) (d′ : List ℕ)
     pub elements : o′ .elements ≡ o .elements
     pub names : Half (nameIs d N) (λ M P. nameIs d′ M) A B (length A) (o .names) (o′ .names) (c .names) mine
     pub qnames : Half (rowTriple d N Q) (rowTriple d′) A B (length B) (o .qnames) (o′ .qnames) (c .qnames) qmine
-    pub parts : (r : ℕ) → Mem r qmine → Parts mine r
+    pub parts : (r : ℕ) → In r qmine → Parts mine r
 
   pub one-grows : {A M : List NameRow} {B P : List QnameRow} {o o′ : Scope} {c : Defined} {mine qmine : List ℕ} → Onto A B M P → One A B o o′ c mine qmine → One M P o o′ c mine qmine
   one-grows x h =
@@ -259,10 +261,10 @@ module _ (d : List ℕ) (N : List NameRow) (Q : List QnameRow) (d′ : List ℕ)
         elements = h .elements;
         names = h .names;
         qnames = half-source (rowTriple d N Q) (rowTriple d′) a (h .qnames);
-        parts = λ r m. or r (mem-snoc r qmine a m);
+        parts = λ r m. or r (in-snoc r qmine a m);
       }
     where
-      or : (r : ℕ) → Mem r qmine ⊎ (r ≡ a) → Parts mine r
+      or : (r : ℕ) → In r qmine ⊎ (r ≡ a) → Parts mine r
       or r (inl m) = h .parts r m
       or r (inr e) = rw e p
 

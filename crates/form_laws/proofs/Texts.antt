@@ -6,16 +6,18 @@ use mathlib.Core.Option.{some}
 use mathlib.Core.List.{List, [], _∷_, _++_}
 use native.Mathlib.Omega.{arith}
 use lib.ListN.{length, getElem?, length-append}
-use Rattle.form.specs.Places.{Triple, sameText, sameTriple, place, absent, fresh, numberOf, grownIf, grown}
+use Rattle.sequences.specs.Lists.{same}
+use Rattle.sequences.specs.Members.{In}
+use Rattle.form.specs.Places.{Triple, sameTriple, place, absent, fresh, numberOf, grownIf, grown}
 use Rattle.form.specs.Canonical.{Defined, defined, withQname, withTexts}
 use Rattle.form.proofs.Places.{Tells, tells-text, tells-triple, present, absent-place, place-present, place-grows, place-at, place-found, place-last}
-use Rattle.form_laws.proofs.Lists.{Mem, mem-place}
+use Rattle.form_laws.proofs.Lists.{in-place}
 
 module _ {A : Type 0} (same : A → A → Bool) (tells : Tells same) where
   -- what is absent is no element
-  pub absent-not : (l : List A) (a : A) → absent same l a ≡ true → Mem a l → ⊥
+  pub absent-not : (l : List A) (a : A) → absent same l a ≡ true → In a l → ⊥
   absent-not l a e m =
-      let h = mem-place m in
+      let h = in-place m in
       let f = place-found same tells l (h .0) (h .1) in
       let g = absent-place same l a e in
       omega arith
@@ -43,19 +45,19 @@ module _ {A : Type 0} (same : A → A → Bool) (tells : Tells same) where
 pub fresh-grown : (c : List (List ℕ)) (t : List ℕ) → fresh (grown c t) t ≡ false
 unfolding fresh grown grownIf
 fresh-grown c [] = refl
-fresh-grown c (x ∷ t) = go (absent sameText c (x ∷ t)) refl
+fresh-grown c (x ∷ t) = go (absent same c (x ∷ t)) refl
   where
-    go : (b : Bool) → absent sameText c (x ∷ t) ≡ b → absent sameText (cond b (c ++ ((x ∷ t) ∷ [])) c) (x ∷ t) ≡ false
-    go true e = added sameText tells-text c (x ∷ t) e .0
+    go : (b : Bool) → absent same c (x ∷ t) ≡ b → absent same (cond b (c ++ ((x ∷ t) ∷ [])) c) (x ∷ t) ≡ false
+    go true e = added same tells-text c (x ∷ t) e .0
     go false e = e
 
 pub number-grown : (c : List (List ℕ)) (t : List ℕ) → numberOf (grown c t) t ≡ numberOf c t
 unfolding fresh grown grownIf numberOf
 number-grown c [] = refl
-number-grown c (x ∷ t) = go (absent sameText c (x ∷ t)) refl
+number-grown c (x ∷ t) = go (absent same c (x ∷ t)) refl
   where
-    go : (b : Bool) → absent sameText c (x ∷ t) ≡ b → suc (place sameText (cond b (c ++ ((x ∷ t) ∷ [])) c) (x ∷ t)) ≡ suc (place sameText c (x ∷ t))
-    go true e = ap suc (added sameText tells-text c (x ∷ t) e .1)
+    go : (b : Bool) → absent same c (x ∷ t) ≡ b → suc (place same (cond b (c ++ ((x ∷ t) ∷ [])) c) (x ∷ t)) ≡ suc (place same c (x ∷ t))
+    go true e = ap suc (added same tells-text c (x ∷ t) e .1)
     go false e = refl
 
 -- a text that was there stays
@@ -64,8 +66,8 @@ unfolding fresh grown grownIf
 fresh-keeps c s [] e = refl
 fresh-keeps c s (x ∷ t) e = go (fresh c s)
   where
-    go : (b : Bool) → absent sameText (cond b (c ++ (s ∷ [])) c) (x ∷ t) ≡ false
-    go true = keeps sameText tells-text c (x ∷ t) s e
+    go : (b : Bool) → absent same (cond b (c ++ (s ∷ [])) c) (x ∷ t) ≡ false
+    go true = keeps same tells-text c (x ∷ t) s e
     go false = e
 
 -- a qname that was needed is there, at the number that it then got

@@ -11,6 +11,7 @@ use lib.Dec.{eqb}
 use lib.ListN.{length, getD, drop, length-append}
 use borrow.Author.Tests.{eqb-true}
 use Rattle.sequences.specs.Lists.{part}
+use Rattle.sequences.specs.Members.{In}
 use Rattle.sequences.proofs.Overlay.{part-length}
 use Rattle.sequences.proofs.Tests.{and-left, and-right}
 use Rattle.token.specs.Answers.{longest}
@@ -21,7 +22,7 @@ use Rattle.value.specs.Fields.{textAt, fieldAt}
 use Rattle.value.specs.declared.Text.the-variants as text
 use Rattle.value.specs.declared.Field.the-variants as field
 use Rattle.value.proofs.Fields.{field-inside, payload-inside, payload-lawful, not-qname}
-use Rattle.modes.specs.Modes.{content, listing, declares, allowed, afterMetadata, afterMisc, afterValue}
+use Rattle.modes.specs.Modes.{content, listing, inDeclaration, allowed, afterMetadata, afterMisc, afterValue}
 use Rattle.modes.specs.declared.Mode.{Mode}
 use Rattle.modes.specs.declared.Mode.the-variants as mode
 use Rattle.modes.specs.declared.View.{View}
@@ -34,7 +35,7 @@ use Rattle.machine.specs.Events as events
 use Rattle.machine.proofs.Found as found
 use Rattle.machine.proofs.Found.{Stands, ValueClass}
 use Rattle.form.specs.Places.{triple, numberOf}
-use Rattle.form.specs.Canonical.{counted, lengthOf, headerOf, Scopes, scopes, onward, left, body, definition}
+use Rattle.form.specs.Canonical.{withUnits, lengthOf, headerOf, Scopes, scopes, scopesAfter, left, body, definition}
 use Rattle.grammar.specs.Points.{Point, point, headed, nesting, returned}
 use Rattle.grammar.specs.Grammar.{Standalone, standalone, atomicvalue, pi}
 use Rattle.grammar.proofs.Atomic.{Values, any-version, later, class-atomic}
@@ -43,7 +44,7 @@ use Rattle.grammar.proofs.Payloads.{payload-found}
 use Rattle.grammar.proofs.Sound.{pointOf}
 use Rattle.grammar.proofs.Steps.{stateOf, value, instruction, after-xmldecl, after-encoding, nests, leaves}
 use Rattle.grammar.proofs.Ends.{allOpen, allNested}
-use Rattle.form_laws.proofs.Lists.{drop-byte, Mem, mem-getD, at-last}
+use Rattle.form_laws.proofs.Lists.{drop-byte, in-getD, at-last}
 use Rattle.form_laws.proofs.Written.{Fit, number-at, text-at, header-at, payload-at}
 use Rattle.form_laws.proofs.Modes.{same, earlier-equal, earlier-metadata, earlier-declares, declaring, alike-on, alike-earlier}
 use Rattle.form_laws.proofs.Texts.{fresh-grown, number-grown}
@@ -102,30 +103,30 @@ module _ (d : List ℕ) (N : List NameRow) (Q : List QnameRow) (d′ : List ℕ)
 
   -- ---- the standalone byte
 
-  standing : (p q : Point) (m : Mode) (e : ℕ) (os : List Scope) → declares m ≡ true → Standalone d′ p q → Walk d N Q d′ room fit (stateOf p m e os) (stateOf q mode.Prolog e os)
+  standing : (p q : Point) (m : Mode) (e : ℕ) (os : List Scope) → inDeclaration m ≡ true → Standalone d′ p q → Walk d N Q d′ room fit (stateOf p m e os) (stateOf q mode.Prolog e os)
   standing p q m e os h x = go (declaring m h)
     where
       go : (m ≡ mode.AfterXmlDecl) ⊎ (m ≡ mode.AfterEncoding) → Walk d N Q d′ room fit (stateOf p m e os) (stateOf q mode.Prolog e os)
       go (inl i) = rw i (after-xmldecl allOpen allNested d′ room e os x)
       go (inr i) = rw i (after-encoding allOpen allNested d′ room e os x)
 
-  pub on-standalone : {s : State} {rs : List EventRow} (v : ℕ) → v ≤ 2 → declares (s .mode) ≡ true
+  pub on-standalone : {s : State} {rs : List EventRow} (v : ℕ) → v ≤ 2 → inDeclaration (s .mode) ≡ true
       → Next d N Q d′ room fit E (machine.onward s (event 0 (s .at) v 0) mode.Prolog (s .here) (s .at + 1)) rs → Next d N Q d′ room fit E s (event 0 (s .at) v 0 ∷ rs)
   unfolding eventOf classOf
   on-standalone {s} {rs} v l h go s′ σ G o S =
       let r : EventRow = event 0 (s .at) v 0 in
       let b = drop-byte d′ (s′ .at) (told d N Q d′ room fit E rs r {e = events.standalone v} refl S) in
-      let z : declares (s′ .mode) ≡ true = rw (earlier-declares o h) h in
+      let z : inDeclaration (s′ .mode) ≡ true = rw (earlier-declares o h) h in
       on-event d N Q d′ room fit E r (event 0 (s′ .at) v 0) mode.Prolog mode.Prolog (s .here .elements) (s′ .here .elements) (s .at + 1) (s′ .at + 1) S (S .here .elements)
       same refl (λ M P y. refl) (standing (pointOf s′) _ (s′ .mode) (s′ .here .elements) (s′ .outer) z (standalone (b .0) l)) (b .1) go
 
   -- ---- a PI
 
   -- the text of a number that is known in the source
-  among-row : (known mine : List ℕ) → ((r : ℕ) → Mem r known → Mem r mine) → (n : ℕ) → n ≤ length known → Among d N Q d′ mine (nameText d N (rowOf known n))
+  among-row : (known mine : List ℕ) → ((r : ℕ) → In r known → In r mine) → (n : ℕ) → n ≤ length known → Among d N Q d′ mine (nameText d N (rowOf known n))
   unfolding nameText
   among-row known mine h zero l = empty
-  among-row known mine h (suc k) l = text (record { row = getD known k 0; among = h (getD known k 0) (mem-getD known k (omega arith)); says = refl })
+  among-row known mine h (suc k) l = text (record { row = getD known k 0; among = h (getD known k 0) (in-getD known k (omega arith)); says = refl })
 
   pub on-pi : {s : State} {rs : List EventRow} {n start place units : ℕ} → Few s → Metas (s .mode) → content (s .mode) ≡ true → n ≤ length (s .here .names)
       → textAt 5 d start ≡ text.Is place units
@@ -139,8 +140,8 @@ module _ (d : List ℕ) (N : List NameRow) (Q : List QnameRow) (d′ : List ℕ)
       let t = part d place (2 * units) in
       let h : tell d N Q d′ room fit E r ≡ events.pi target t = rw e in
       let c = σ .here .names in
-      let w = body (onward σ (events.pi target t)) (map (tell d N Q d′ room fit E) rs) in
-      let i : drop (s′ .at) d′ ≡ definition c target ++ (0xF4 ∷ (shortest (numberOf c target) ++ (counted t ++ w))) = told d N Q d′ room fit E rs r h S ∙ simp append-assoc in
+      let w = body (scopesAfter σ (events.pi target t)) (map (tell d N Q d′ room fit E) rs) in
+      let i : drop (s′ .at) d′ ≡ definition c target ++ (0xF4 ∷ (shortest (numberOf c target) ++ (withUnits t ++ w))) = told d N Q d′ room fit E rs r h S ∙ simp append-assoc in
       let a = alike-earlier o in
       let R = define d N Q d′ room fit target (among-row (s .here .names) (G .mine) (S .here .names .held) n l) (metas-alike a metas) (with-left d N Q d′ room fit S i) in
       let q = R .to in
@@ -149,7 +150,7 @@ module _ (d : List ℕ) (N : List NameRow) (Q : List QnameRow) (d′ : List ℕ)
       let nm′ : Named d N Q d′ room fit (q .names) (q .qnames) (q .here .names) (numberOf c target) target = rw (number-grown c target) at nm in
       let ls = less d N Q d′ room fit T in
       let b = drop-byte d′ (q .at) (T .left) in
-      let x = number-at d′ 5 (q .at + 1) (numberOf c target) (counted t ++ w) (omega arith) (omega (arith, nm′ .low, ls .known, few .names)) (b .1) in
+      let x = number-at d′ 5 (q .at + 1) (numberOf c target) (withUnits t ++ w) (omega arith) (omega (arith, nm′ .low, ls .known, few .names)) (b .1) in
       let y = text-at d′ (x .next) t w (text-fit d start e) (x .after) in
       let z = alike-on a (R .modes) in
       let ms = metas-alike z metas in
@@ -162,12 +163,12 @@ module _ (d : List ℕ) (N : List NameRow) (Q : List QnameRow) (d′ : List ℕ)
 
   -- ---- nested documents
 
-  pub on-nest : {s : State} {rs : List EventRow} {next : ℕ} (version : ℕ) → 1 ≤ version → version ≤ 2 → declares (s .mode) ≡ false → content (s .mode) ≡ true → length (s .outer) < 8
+  pub on-nest : {s : State} {rs : List EventRow} {next : ℕ} (version : ℕ) → 1 ≤ version → version ≤ 2 → inDeclaration (s .mode) ≡ false → content (s .mode) ≡ true → length (s .outer) < 8
       → Next d N Q d′ room fit E (machine.nested s version next) rs → Next d N Q d′ room fit E s (event 0xEC (s .at) version 0 ∷ rs)
   unfolding eventOf classOf
   on-nest {s} {rs} {next} version l h out cont deep go s′ σ G o S =
       let r : EventRow = event 0xEC (s .at) version 0 in
-      let σ′ : Scopes = onward σ (events.nest version) in
+      let σ′ : Scopes = scopesAfter σ (events.nest version) in
       let w = body σ′ (map (tell d N Q d′ room fit E) rs) in
       let e : drop (s′ .at) d′ ≡ 0xEC ∷ (headerOf version ++ w) = told d N Q d′ room fit E rs r {e = events.nest version} refl S in
       let b = drop-byte d′ (s′ .at) e in
@@ -188,7 +189,7 @@ module _ (d : List ℕ) (N : List NameRow) (Q : List QnameRow) (d′ : List ℕ)
               elements = refl;
               names = half-none (nameIs d N) (λ M P. nameIs d′ M) _ _ _;
               qnames = half-none (rowTriple d N Q) (rowTriple d′) _ _ _;
-              parts = λ k (m : Mem k []). elim m [ ];
+              parts = λ k (m : In k []). elim m [ ];
             };
         outer = document (S .here) (S .outer);
         events = simp length-append (omega arith);
@@ -203,7 +204,7 @@ module _ (d : List ℕ) (N : List NameRow) (Q : List QnameRow) (d′ : List ℕ)
   moved : (p : Point) (m : Mode) {e f : ℕ} {os ps : List Scope} {u : State} → e ≡ f → os ≡ ps → Walk d N Q d′ room fit (stateOf p m f ps) u → Walk d N Q d′ room fit (stateOf p m e os) u
   moved p m i j w = rw (i, j) w
 
-  pub on-leave : {s : State} {rs : List EventRow} (os : List Scope) → s .outer ≡ os → declares (s .mode) ≡ false → content (s .mode) ≡ true → 0 < length os → s .here .elements ≡ 0
+  pub on-leave : {s : State} {rs : List EventRow} (os : List Scope) → s .outer ≡ os → inDeclaration (s .mode) ≡ false → content (s .mode) ≡ true → 0 < length os → s .here .elements ≡ 0
       → Next d N Q d′ room fit E (machine.returned s os (s .at + 1)) rs → Next d N Q d′ room fit E s (leaveRows s os ++ rs)
   unfolding eventOf classOf
   on-leave [] i out cont l z go s′ σ G o S = absurd (let q : ⊥ = omega arith in q)
@@ -254,7 +255,7 @@ module _ (d : List ℕ) (N : List NameRow) (Q : List QnameRow) (d′ : List ℕ)
       (record { here = one-name d N Q d′ a (S .here); outer = S .outer; events = S .events; names = simp length-append (omega arith); qnames = S .qnames; left = S .left })
 
   -- the source's row of a qname says the texts of its three names, for which the document has rows
-  row-parts : {known mine : List ℕ} (B more : List QnameRow) → ((r : ℕ) → Mem r known → Mem r mine) → (u p l : ℕ) → u ≤ length known → p ≤ length known → l ≤ length known
+  row-parts : {known mine : List ℕ} (B more : List QnameRow) → ((r : ℕ) → In r known → In r mine) → (u p l : ℕ) → u ≤ length known → p ≤ length known → l ≤ length known
       → Q ≡ (B ++ (qnameRow (rowOf known u) (rowOf known p) (rowOf known l) ∷ [])) ++ more → Parts d N Q d′ mine (length B + 1)
   unfolding rowTriple
   row-parts {known} {mine} B more h u p l i j k e =

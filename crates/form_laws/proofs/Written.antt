@@ -20,7 +20,7 @@ use Rattle.number.proofs.Spelling.{shortest-read}
 use Rattle.rules.specs.Rules.{decimalSize, decimalLawful, timeBytes, timeLawful, zonedLawful, lawful}
 use Rattle.value.specs.Fields.{needed, textAt, textPayload, timeField, extentAt, fieldAt}
 use Rattle.value.specs.declared.Field.the-variants as field
-use Rattle.form.specs.Canonical.{counted, lengthOf, headerOf}
+use Rattle.form.specs.Canonical.{withUnits, lengthOf, headerOf}
 use Rattle.grammar.specs.Fields.{TextData}
 use Rattle.grammar.specs.Grammar.{Header}
 use Rattle.grammar.proofs.Leaves.{number-found}
@@ -82,8 +82,8 @@ module _ (d : List ℕ) where
     pub is : part d place (2 * (length t / 2)) ≡ t
     pub after : drop (place + 2 * (length t / 2)) d ≡ w
 
-  pub text-at : (p : ℕ) (t w : List ℕ) → Fit t → drop p d ≡ counted t ++ w → TextAt p t w
-  unfolding counted
+  pub text-at : (p : ℕ) (t w : List ℕ) → Fit t → drop p d ≡ withUnits t ++ w → TextAt p t w
+  unfolding withUnits
   text-at p t w f e =
       let n = number-at 5 p (length t / 2) (t ++ w) (omega arith) (f .small) (e ∙ append-assoc (shortest (length t / 2)) t w) in
       let x = piece d (n .next) t w (n .inside) (n .after) in

@@ -15,8 +15,8 @@ abbrev pub eventsRead : List ℕ → Room → List Event
 eventsRead doc room = eventsOf doc (reading doc room .final)
 
 -- the form of a document that was read with this room
-abbrev pub formOf : List ℕ → Room → List ℕ
-formOf doc room = canonical (reading doc room .version) (eventsRead doc room)
+abbrev pub formRead : List ℕ → Room → List ℕ
+formRead doc room = canonical (reading doc room .version) (eventsRead doc room)
 
 abbrev pub tokensRead : List ℕ → Room → List ℕ
 tokensRead doc room = map (λ (e : EventRow). e .token) (reading doc room .final .events)
@@ -24,13 +24,13 @@ tokensRead doc room = map (λ (e : EventRow). e .token) (reading doc room .final
 -- a document is accepted, and its form is not refused for size
 pub record Formed (doc : List ℕ) (room : Room) : Type 0 where
   pub number-is : reading doc room .number ≡ accepted
-  pub not-long : length (formOf doc room) ≤ longest
+  pub not-long : length (formRead doc room) ≤ longest
 
 -- the form is accepted with the same tables: the same events and outer version, and no more rows
 pub record ReadsAgain (doc : List ℕ) (room : Room) : Type 0 where
-  pub number-is : reading (formOf doc room) room .number ≡ accepted
-  pub version-is : reading (formOf doc room) room .version ≡ reading doc room .version
-  pub events-are : eventsRead (formOf doc room) room ≡ eventsRead doc room
-  pub tokens-are : tokensRead (formOf doc room) room ≡ tokensRead doc room
-  pub names-few : length (reading (formOf doc room) room .final .names) ≤ length (reading doc room .final .names)
-  pub qnames-few : length (reading (formOf doc room) room .final .qnames) ≤ length (reading doc room .final .qnames)
+  pub number-is : reading (formRead doc room) room .number ≡ accepted
+  pub version-is : reading (formRead doc room) room .version ≡ reading doc room .version
+  pub events-are : eventsRead (formRead doc room) room ≡ eventsRead doc room
+  pub tokens-are : tokensRead (formRead doc room) room ≡ tokensRead doc room
+  pub names-few : length (reading (formRead doc room) room .final .names) ≤ length (reading doc room .final .names)
+  pub qnames-few : length (reading (formRead doc room) room .final .qnames) ≤ length (reading doc room .final .qnames)

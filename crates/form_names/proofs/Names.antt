@@ -5,7 +5,8 @@ use mathlib.Core.Bool.{Bool, true, false, cond}
 use mathlib.Core.List.{List, [], _∷_, _++_}
 use native.Mathlib.Omega.{arith}
 use lib.ListN.{length, length-append, length-set}
-use Rattle.form.specs.Places.{Triple, sameText, place, absent, fresh, numberOf, grownIf, grown}
+use Rattle.sequences.specs.Lists.{same}
+use Rattle.form.specs.Places.{Triple, place, absent, fresh, numberOf, grownIf, grown}
 use Rattle.form.specs.Canonical.{definition, withTexts, definitions, qnameBytes}
 use Rattle.form.proofs.Places.{Tells, tells-text, present, absent-place, place-grows, place-last}
 use Rattle.form_slots.specs.declared.Parts.{Parts}
@@ -119,60 +120,60 @@ names-low most slots qslots base q class l = go (isNew qslots base class)
 -- a text is empty, or in a list
 pub data Has (c : List (List ℕ)) (t : List ℕ) : Type 0 where
   empty : t ≡ [] → Has c t
-  among : place sameText c t < length c → Has c t
+  among : place same c t < length c → Has c t
 
-has-some : {c : List (List ℕ)} {b : ℕ} {t : List ℕ} → Has c (b ∷ t) → place sameText c (b ∷ t) < length c
+has-some : {c : List (List ℕ)} {b : ℕ} {t : List ℕ} → Has c (b ∷ t) → place same c (b ∷ t) < length c
 has-some (empty e) = absurd (let z : _≡_ {A = ℕ} 0 1 = cc in let q : ⊥ = omega arith in q)
 has-some (among h) = h
 
 pub has-grown : (c : List (List ℕ)) (t : List ℕ) → Has (grown c t) t
 unfolding grown fresh
 has-grown c [] = empty refl
-has-grown c (b ∷ t) = among (grown-any sameText tells-text c (b ∷ t) .0)
+has-grown c (b ∷ t) = among (grown-any same tells-text c (b ∷ t) .0)
 
 pub has-more : (c : List (List ℕ)) (s t : List ℕ) → Has c t → Has (grown c s) t
 unfolding grown grownIf
 has-more c s t (empty e) = empty e
 has-more c s t (among h) = among (go (fresh c s))
   where
-    go : (b : Bool) → place sameText (cond b (c ++ (s ∷ [])) c) t < length (cond b (c ++ (s ∷ [])) c)
-    go true = let p = place-grows sameText c (s ∷ []) t h in let l : length (c ++ (s ∷ [])) ≡ suc (length c) = rw length-append (omega arith) in omega arith
+    go : (b : Bool) → place same (cond b (c ++ (s ∷ [])) c) t < length (cond b (c ++ (s ∷ [])) c)
+    go true = let p = place-grows same c (s ∷ []) t h in let l : length (c ++ (s ∷ [])) ≡ suc (length c) = rw length-append (omega arith) in omega arith
     go false = h
 
 pub number-grown : (c : List (List ℕ)) (t : List ℕ) → numberOf (grown c t) t ≡ numberOf c t
 unfolding grown fresh numberOf
 number-grown c [] = refl
-number-grown c (b ∷ t) = ap suc (grown-any sameText tells-text c (b ∷ t) .1)
+number-grown c (b ∷ t) = ap suc (grown-any same tells-text c (b ∷ t) .1)
 
 -- `T` are the texts of the rows of names
 module _ (doc names : List ℕ) (T : List (List ℕ)) where
   -- the row that a class is the number of has its text
   pub record Classed : Type 0 where
     pub few : length T ≤ 1024
-    pub text : (t : List ℕ) → place sameText T t < length T → classText doc names (suc (place sameText T t)) ≡ t
+    pub text : (t : List ℕ) → place same T t < length T → classText doc names (suc (place same T t)) ≡ t
 
-  module _ (k : Classed) {c : List (List ℕ)} {slots : List ℕ} {base : ℕ} (m : Marks sameText T c slots base) (room : base + 1025 ≤ length slots) where
+  module _ (k : Classed) {c : List (List ℕ)} {slots : List ℕ} {base : ℕ} (m : Marks same T c slots base) (room : base + 1025 ≤ length slots) where
     pub new-is : (t : List ℕ) → Has T t → isNew slots base (numberOf T t) ≡ fresh c t
     unfolding numberOf fresh
     new-is [] h = refl
-    new-is (b ∷ t) h = new-any sameText tells-text T (k .few) m room (b ∷ t) (has-some h)
+    new-is (b ∷ t) h = new-any same tells-text T (k .few) m room (b ∷ t) (has-some h)
 
     pub bytes-are : (t : List ℕ) → Has T t → bytesBefore doc names slots base (numberOf T t) ≡ definition c t
     unfolding bytesBefore definition numberOf fresh
     bytes-are [] h = refl
     bytes-are (b ∷ t) h =
         let l = has-some h in
-        rw (new-any sameText tells-text T (k .few) m room (b ∷ t) l, k .text (b ∷ t) l)
+        rw (new-any same tells-text T (k .few) m room (b ∷ t) l, k .text (b ∷ t) l)
 
-    pub slots-are : (t : List ℕ) → Has T t → Marks sameText T (grown c t) (slotsAfter slots base (numberOf T t)) base
+    pub slots-are : (t : List ℕ) → Has T t → Marks same T (grown c t) (slotsAfter slots base (numberOf T t)) base
     unfolding slotsAfter grown numberOf fresh grownIf
     slots-are [] h = m
-    slots-are (b ∷ t) h = after-any sameText tells-text T (k .few) m room (b ∷ t) (has-some h)
+    slots-are (b ∷ t) h = after-any same tells-text T (k .few) m room (b ∷ t) (has-some h)
 
     pub number-is : (t : List ℕ) → Has T t → Has c t → numberIn slots base (numberOf T t) ≡ numberOf c t
     unfolding numberOf
     number-is [] h l = refl
-    number-is (b ∷ t) h l = number-any sameText tells-text T (k .few) m room (b ∷ t) (has-some h) (has-some l)
+    number-is (b ∷ t) h l = number-any same tells-text T (k .few) m room (b ∷ t) (has-some h) (has-some l)
 
   -- ---- qnames
 
@@ -185,12 +186,12 @@ module _ (doc names : List ℕ) (T : List (List ℕ)) where
     pub prefix : Has T (q .prefix)
     pub local : Has T (q .local)
 
-  module _ (k : Classed) {c : List (List ℕ)} {slots : List ℕ} {base : ℕ} (m : Marks sameText T c slots base) (low : length slots ≡ 9225) (room : base + 1025 ≤ 9225)
+  module _ (k : Classed) {c : List (List ℕ)} {slots : List ℕ} {base : ℕ} (m : Marks same T c slots base) (low : length slots ≡ 9225) (room : base + 1025 ≤ 9225)
       (q : Triple) (h : Has3 q) where
     room0 : base + 1025 ≤ length slots
     room0 = omega arith
 
-    m1 : Marks sameText T (grown c (q .uri)) (slots1 slots base (partsOf q)) base
+    m1 : Marks same T (grown c (q .uri)) (slots1 slots base (partsOf q)) base
     unfolding slots1
     m1 = slots-are k m room0 (q .uri) (h .uri)
 
@@ -198,7 +199,7 @@ module _ (doc names : List ℕ) (T : List (List ℕ)) where
     unfolding slots1
     long1 = rw (slots-long slots base (numberOf T (q .uri))) room0
 
-    m2 : Marks sameText T (grown (grown c (q .uri)) (q .prefix)) (slots2 slots base (partsOf q)) base
+    m2 : Marks same T (grown (grown c (q .uri)) (q .prefix)) (slots2 slots base (partsOf q)) base
     unfolding slots2
     m2 = slots-are k m1 long1 (q .prefix) (h .prefix)
 
@@ -206,7 +207,7 @@ module _ (doc names : List ℕ) (T : List (List ℕ)) where
     unfolding slots2
     long2 = rw (slots-long (slots1 slots base (partsOf q)) base (numberOf T (q .prefix))) long1
 
-    pub slots3-are : Marks sameText T (withTexts c q) (slots3 slots base (partsOf q)) base
+    pub slots3-are : Marks same T (withTexts c q) (slots3 slots base (partsOf q)) base
     unfolding slots3 withTexts
     slots3-are = slots-are k m2 long2 (q .local) (h .local)
 

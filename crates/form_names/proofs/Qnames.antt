@@ -5,7 +5,8 @@ use mathlib.Core.Bool.{Bool, true, false, cond}
 use mathlib.Core.List.{List, [], _∷_, _++_}
 use native.Mathlib.Omega.{arith}
 use lib.ListN.{length}
-use Rattle.form.specs.Places.{Triple, sameText, sameTriple, place, absent, qnumberOf, grownIf}
+use Rattle.sequences.specs.Lists.{same}
+use Rattle.form.specs.Places.{Triple, sameTriple, place, absent, qnumberOf, grownIf}
 use Rattle.form.specs.Canonical.{defined, withTexts, qnameDefinition, withQname}
 use Rattle.form.proofs.Places.{tells-triple}
 use Rattle.form_slots.specs.Slots.{isNew, slotsAfter, numberIn}
@@ -15,7 +16,7 @@ use Rattle.form_names.proofs.Names.{Classed, partsOf, Has3, new-any, af
 
 -- `T` are the texts of the rows of names, `QT` the three texts of each row of qnames
 module _ (doc names : List ℕ) (T : List (List ℕ)) (QT : List Triple) (k : Classed doc names T) (few : length QT ≤ 1024) {c : List (List ℕ)} {qs : List Triple}
-    {slots qslots : List ℕ} {base : ℕ} (m : Marks sameText T c slots base) (mq : Marks sameTriple QT qs qslots base) (long : length slots ≡ 9225)
+    {slots qslots : List ℕ} {base : ℕ} (m : Marks same T c slots base) (mq : Marks sameTriple QT qs qslots base) (long : length slots ≡ 9225)
     (qlong : length qslots ≡ 9225) (room : base + 1025 ≤ 9225) (q : Triple) (h : Has3 doc names T q) (row : place sameTriple QT q < length QT) where
   qroom : base + 1025 ≤ length qslots
   qroom = omega arith
@@ -28,11 +29,11 @@ module _ (doc names : List ℕ) (T : List (List ℕ)) (QT : List Triple) (k : Cl
   unfolding qnameBefore qnameDefinition
   qname-bytes = rw (new-qname, texts-are doc names T k m long room q h, numbers-are doc names T k m long room q h)
 
-  pub names-after : Marks sameText T (withQname (defined c qs) q .names) (namesAfter slots qslots base (partsOf doc names T q) (qnumberOf QT q)) base
+  pub names-after : Marks same T (withQname (defined c qs) q .names) (namesAfter slots qslots base (partsOf doc names T q) (qnumberOf QT q)) base
   unfolding namesAfter withQname
   names-after = rw new-qname (go (absent sameTriple qs q))
     where
-      go : (t : Bool) → Marks sameText T (cond t (defined (withTexts c q) (qs ++ (q ∷ []))) (defined c qs) .names) (cond t (slots3 slots base (partsOf doc names T q)) slots) base
+      go : (t : Bool) → Marks same T (cond t (defined (withTexts c q) (qs ++ (q ∷ []))) (defined c qs) .names) (cond t (slots3 slots base (partsOf doc names T q)) slots) base
       go true = slots3-are doc names T k m long room q h
       go false = m
 

@@ -8,20 +8,22 @@ use lib.ListN.{length, getD, set, length-append, length-take, length-drop}
 use borrow.Author.Tests.{eq-eqb, ne-eqb}
 use Rattle.sequences.specs.Lists.{part}
 use Rattle.number.specs.Number.{shortest}
-use Rattle.form.specs.Canonical.{counted}
+use Rattle.machine.specs.Tables.{NamesInside}
+use Rattle.form.specs.Canonical.{withUnits}
 use Rattle.form_output.specs.Output.{Fits, Put}
 use Rattle.form_output.proofs.Laws.{shortest-few, put-none, put-byte, put-then, fits-first, fits-next}
 use Rattle.form_slots.specs.declared.Parts.{Parts}
 use Rattle.form_slots.specs.Slots.{isNew, marked, slotsAfter, numberIn, Low, PartsFit}
-use Rattle.form_names.specs.Naming.{classText, bytesBefore, slots1, slots2, slots3, textsBefore, qnameNumbers, qnameBefore, namesAfter, Texts}
+use Rattle.form_names.specs.Naming.{classText, bytesBefore, slots1, slots2, slots3, textsBefore, qnameNumbers, qnameBefore, namesAfter}
 use Rattle.form_names.proofs.Names.{slots-low, slots3-low}
 use Rattle.form_slots.proofs.Slots.{low-more, number-low}
+use Rattle.token.specs.Answers.{qnameWidth}
 
 part-few : (doc : List ℕ) (place size : ℕ) → length (part doc place size) ≤ length doc
 part-few doc place size = rw (length-take, length-drop) (omega arith)
 
-pub counted-few : (doc : List ℕ) (place size : ℕ) → length (counted (part doc place size)) ≤ 5 + length doc
-unfolding counted
+pub counted-few : (doc : List ℕ) (place size : ℕ) → length (withUnits (part doc place size)) ≤ 5 + length doc
+unfolding withUnits
 counted-few doc place size =
     let a = shortest-few (length (part doc place size) / 2) in
     let b = part-few doc place size in
@@ -48,7 +50,7 @@ module _ (doc names slots : List ℕ) (base class : ℕ) where
   unfolding bytesBefore classText
   bytes-few = go (isNew slots base class)
     where
-      go : (b : Bool) → length (cond b (0xF0 ∷ counted (part doc (getD names (2 * (class - 1)) 0) (2 * getD names (2 * (class - 1) + 1) 0))) []) ≤ 6 + length doc
+      go : (b : Bool) → length (cond b (0xF0 ∷ withUnits (part doc (getD names (2 * (class - 1)) 0) (2 * getD names (2 * (class - 1) + 1) 0))) []) ≤ 6 + length doc
       go true = let h = counted-few doc (getD names (2 * (class - 1)) 0) (2 * getD names (2 * (class - 1) + 1) 0) in omega arith
       go false = omega arith
 
@@ -65,22 +67,22 @@ module _ (doc names slots : List ℕ) (base class : ℕ) where
 
   module _ (n : class ≡ 0 → ⊥) (e : getD slots (base + class) 0 ≡ 0) {place units : ℕ} (p : place ≡ getD names (2 * (class - 1)) 0)
       (u : units ≡ getD names (2 * (class - 1) + 1) 0) where
-    bytes-due : bytesBefore doc names slots base class ≡ 0xF0 ∷ counted (part doc place (2 * units))
+    bytes-due : bytesBefore doc names slots base class ≡ 0xF0 ∷ withUnits (part doc place (2 * units))
     unfolding bytesBefore classText
     bytes-due = rw (new-true n e, p, u)
 
-    pub text-due : {b m x : List ℕ} {at r : ℕ} {s : List ℕ} → m ≡ set b at 0xF0 → Put m x (at + 1) r (counted (part doc place (2 * units))) → s ≡ marked slots base class
+    pub text-due : {b m x : List ℕ} {at r : ℕ} {s : List ℕ} → m ≡ set b at 0xF0 → Put m x (at + 1) r (withUnits (part doc place (2 * units))) → s ≡ marked slots base class
         → Put b x at r (bytesBefore doc names slots base class) × (s ≡ slotsAfter slots base class)
     unfolding slotsAfter
     text-due i j k = rw (bytes-due, new-true n e) (put-then (put-byte i) j, k)
 
-    pub text-asks : {rows at : ℕ} (b m : List ℕ) → Texts doc names rows → class ≤ rows → at ≤ 1000000000000 → m ≡ set b at 0xF0
+    pub text-asks : {rows at : ℕ} (b m : List ℕ) → NamesInside doc names rows → class ≤ rows → at ≤ 1000000000000 → m ≡ set b at 0xF0
         → Fits (length b) at (length (bytesBefore doc names slots base class))
-        → (place + 2 * units ≤ length doc) × (length doc ≤ 65536) × (at + 1 ≤ 1099511627776) × Fits (length m) (at + 1) (length (counted (part doc place (2 * units))))
+        → (place + 2 * units ≤ length doc) × (length doc ≤ 65536) × (at + 1 ≤ 1099511627776) × Fits (length m) (at + 1) (length (withUnits (part doc place (2 * units))))
     text-asks {rows} {at} b m t l a i f =
-        let h = t .each (class - 1) (positive n) in
-        let g : Fits (length b) at (length (0xF0 ∷ counted (part doc place (2 * units)))) = rw bytes-due at f in
-        (rw (p, u) h, t .short, omega arith, fits-next {b = b} {m = m} {a = 0xF0 ∷ []} (counted (part doc place (2 * units))) (put-byte {x = 0xF0} i) g)
+        let h = t .inside (class - 1) (positive n) in
+        let g : Fits (length b) at (length (0xF0 ∷ withUnits (part doc place (2 * units)))) = rw bytes-due at f in
+        (rw (p, u) h, t .short, omega arith, fits-next {b = b} {m = m} {a = 0xF0 ∷ []} (withUnits (part doc place (2 * units))) (put-byte {x = 0xF0} i) g)
       where
         positive : (class ≡ 0 → ⊥) → class - 1 < rows
         positive n = go class l n
@@ -91,11 +93,11 @@ module _ (doc names slots : List ℕ) (base class : ℕ) where
 
 -- ---- the texts of a qname
 
-module _ (doc names : List ℕ) (rows base : ℕ) (q : Parts) (t : Texts doc names rows) (fit : PartsFit rows q) (b : base + 1025 ≤ 9225) where
+module _ (doc names : List ℕ) (rows base : ℕ) (q : Parts) (t : NamesInside doc names rows) (fit : PartsFit rows q) (b : base + 1025 ≤ 9225) where
   -- what the definition of a class asks
   abbrev pub Asks : List ℕ → List ℕ → ℕ → ℕ → Type 0
   Asks slots out at class =
-      Texts doc names rows × (class ≤ rows) × (base + 1025 ≤ 9225) × Low 20000 slots × (at ≤ 1000000000000) × Fits (length out) at (length (bytesBefore doc names slots base class))
+      NamesInside doc names rows × (class ≤ rows) × (base + 1025 ≤ 9225) × Low 20000 slots × (at ≤ 1000000000000) × Fits (length out) at (length (bytesBefore doc names slots base class))
 
   module _ (slots out : List ℕ) (at : ℕ) where
     abbrev bytes1 : List ℕ
@@ -160,7 +162,7 @@ module _ (doc names : List ℕ) (rows base : ℕ) (q : Parts) (t : Texts doc nam
         (put-then p (put-then a c), e″ ∙ rw i)
 
 -- the texts are few bytes
-pub texts-few : (doc names slots : List ℕ) (base : ℕ) (q : Parts) → length (textsBefore doc names slots base q) ≤ 18 + 3 * length doc
+pub texts-few : (doc names slots : List ℕ) (base : ℕ) (q : Parts) → length (textsBefore doc names slots base q) ≤ 18 + qnameWidth * length doc
 unfolding textsBefore
 texts-few doc names slots base q =
     let a = bytes-few doc names slots base (q .uri) in
@@ -185,11 +187,11 @@ unfolding qnameNumbers
 qname-put slots base q i e₁ p e₂ p′ e₃ p″ = rw (← e₁, ← e₂, ← e₃) (put-then (put-byte i) (put-then p (put-then p′ p″)))
 
 module _ (doc names slots qslots : List ℕ) (base : ℕ) (q : Parts) (class : ℕ) where
-  pub qname-few : length (qnameBefore doc names slots qslots base q class) ≤ 34 + 3 * length doc
+  pub qname-few : length (qnameBefore doc names slots qslots base q class) ≤ 34 + qnameWidth * length doc
   unfolding qnameBefore
   qname-few = go (isNew qslots base class)
     where
-      go : (t : Bool) → length (cond t (textsBefore doc names slots base q ++ qnameNumbers (slots3 slots base q) base q) []) ≤ 34 + 3 * length doc
+      go : (t : Bool) → length (cond t (textsBefore doc names slots base q ++ qnameNumbers (slots3 slots base q) base q) []) ≤ 34 + qnameWidth * length doc
       go true =
           let a = texts-few doc names slots base q in
           let b = numbers-few (slots3 slots base q) base q in
@@ -237,7 +239,7 @@ pub number-past : (value : ℕ) {b m : List ℕ} {at r n : ℕ} → Put b m at r
 number-past value p h = let f = shortest-few value in let e = p .past in omega arith
 
 -- before the definition of a qname, by the numbers of its texts
-pub numbers-asks : (doc names slots : List ℕ) (rows base : ℕ) (q : Parts) {b m : List ℕ} {at p : ℕ} {s : List ℕ} → Texts doc names rows → PartsFit rows q → base + 1025 ≤ 9225
+pub numbers-asks : (doc names slots : List ℕ) (rows base : ℕ) (q : Parts) {b m : List ℕ} {at p : ℕ} {s : List ℕ} → NamesInside doc names rows → PartsFit rows q → base + 1025 ≤ 9225
     → Low 19000 slots → at ≤ 900000000000 → Put b m at p (textsBefore doc names slots base q) → s ≡ slots3 slots base q
     → PartsFit 1024 q × (base + 1025 ≤ 9225) × Low 20000 s × (p ≤ 1000000000000)
 numbers-asks doc names slots rows base q t fit b low near p e =

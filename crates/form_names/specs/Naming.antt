@@ -1,14 +1,16 @@
--- Names and qnames that the form has defined so far, as the walk keeps them: for each open document a region of 1,025 numbers,
--- at its base how many are defined, then for each class its number in that document, or 0. What each step makes of them.
-use Prim.Native.Nat.{ℕ, _+_, _-_, _*_, _≤_, _<_}
+-- Serves the code. Names and qnames that the form has defined so far, as the walk keeps them: for each open document a region
+-- of 1,025 numbers, at its base how many are defined, then for each class its number in that document, or 0. What each step
+-- makes of them.
+use Prim.Native.Nat.{ℕ, _+_, _-_, _*_}
 use mathlib.Core.Bool.{cond}
 use mathlib.Core.List.{List, [], _∷_, _++_}
-use lib.ListN.{length, getD}
+use lib.ListN.{getD}
 use Rattle.sequences.specs.Lists.{part}
 use Rattle.number.specs.Number.{shortest}
-use Rattle.form.specs.Canonical.{counted}
+use Rattle.form.specs.Canonical.{withUnits}
 use Rattle.form_slots.specs.declared.Parts.{Parts}
 use Rattle.form_slots.specs.Slots.{isNew, slotsAfter, numberIn}
+use Rattle.token.specs.Codes.{NAMEDEF-TOKEN, QNAMEDEF-TOKEN}
 
 -- the text of the row that a class is the number of
 unfoldable pub classText : List ℕ → List ℕ → ℕ → List ℕ
@@ -16,7 +18,7 @@ classText doc names class = part doc (getD names (2 * (class - 1)) 0) (2 * getD 
 
 -- the definition that a class needs
 unfoldable pub bytesBefore : List ℕ → List ℕ → List ℕ → ℕ → ℕ → List ℕ
-bytesBefore doc names slots base class = cond (isNew slots base class) (0xF0 ∷ counted (classText doc names class)) []
+bytesBefore doc names slots base class = cond (isNew slots base class) (NAMEDEF-TOKEN ∷ withUnits (classText doc names class)) []
 
 -- after each of its names
 unfoldable pub slots1 : List ℕ → ℕ → Parts → List ℕ
@@ -35,7 +37,7 @@ textsBefore doc names slots base q =
 
 unfoldable pub qnameNumbers : List ℕ → ℕ → Parts → List ℕ
 qnameNumbers slots base q =
-    0xEF ∷ (shortest (numberIn slots base (q .uri)) ++ (shortest (numberIn slots base (q .prefix)) ++ shortest (numberIn slots base (q .local))))
+    QNAMEDEF-TOKEN ∷ (shortest (numberIn slots base (q .uri)) ++ (shortest (numberIn slots base (q .prefix)) ++ shortest (numberIn slots base (q .local))))
 
 -- the definition that a qname of this class needs
 unfoldable pub qnameBefore : List ℕ → List ℕ → List ℕ → List ℕ → ℕ → Parts → ℕ → List ℕ
@@ -44,10 +46,3 @@ qnameBefore doc names slots qslots base q class =
 
 unfoldable pub namesAfter : List ℕ → List ℕ → ℕ → Parts → ℕ → List ℕ
 namesAfter slots qslots base q class = cond (isNew qslots base class) (slots3 slots base q) slots
-
--- the texts of so many rows of names lie in the document
-pub record Texts (doc names : List ℕ) (rows : ℕ) : Type 0 where
-  pub few : rows ≤ 1024
-  pub long : 2 * rows ≤ length names
-  pub short : length doc ≤ 65536
-  pub each : (k : ℕ) → k < rows → getD names (2 * k) 0 + 2 * getD names (2 * k + 1) 0 ≤ length doc

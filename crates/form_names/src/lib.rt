@@ -4,9 +4,10 @@ ghost use mathlib.Core.List.{_∷_, _++_};
 ghost use Prim.Native.Nat.{_+_, _*_, _≤_};
 ghost use lib.ListN.{length};
 ghost use Rattle.number.specs.Number.{shortest};
+ghost use Rattle.machine.specs.Tables.{NamesInside};
 ghost use Rattle.form_output.specs.Output.{Fits, Put};
-ghost use Rattle.form_slots.specs.Slots.{slotsAfter, numberIn, Low, PartsFit};
-ghost use Rattle.form_names.specs.Naming.{bytesBefore, slots3, textsBefore, qnameNumbers, qnameBefore, namesAfter, Texts};
+ghost use Rattle.form_slots.specs.Slots.{slotsAfter, numberIn, Low, PartsFit, slotCount, region};
+ghost use Rattle.form_names.specs.Naming.{bytesBefore, slots3, textsBefore, qnameNumbers, qnameBefore, namesAfter};
 use form_slots::Parts;
 
 // Defines the text of a class, unless it is empty or defined; gives the place after it.
@@ -14,13 +15,13 @@ pub fn define_name(
     doc: &[u8],
     names: &[u32],
     out: &mut [u8],
-    slots: &mut [u32; 9225],
+    slots: &mut [u32; form_slots::SLOTS],
     rows: usize,
     at: usize,
     base: usize,
     class: usize,
 ) -> usize
-    requires { ⌜ Texts (now doc) (now names) rows × (class ≤ rows) × (base + 1025 ≤ 9225) × Low 20000 (now slots) × (at ≤ 1000000000000)
+    requires { ⌜ NamesInside (now doc) (now names) rows × (class ≤ rows) × (base + region ≤ slotCount) × Low 20000 (now slots) × (at ≤ 1000000000000)
         × Fits (length (now out)) at (length (bytesBefore (now doc) (now names) (now slots) base class)) ⌝ }
     ensures { λ r. ⌜ Put (now (out .entry)) (now (out .exit)) at r (bytesBefore (now (doc .entry)) (now (names .entry)) (now (slots .entry)) base class)
         × (now (slots .exit) ≡ slotsAfter (now (slots .entry)) base class) ⌝ }
@@ -31,13 +32,13 @@ pub fn define_name(
     if slots[base + class] != 0 {
         return at;
     }
-    form_output::put(out, at, 0xF0);
+    form_output::put(out, at, token::NAMEDEF_TOKEN);
     let k = class - 1;
     form_slots::mark(slots, base, class);
     form_bytes::put_text(
         doc,
-        slices::cell(names, 2 * k),
-        slices::cell(names, 2 * k + 1),
+        slices::cell(names, token::NAME_WIDTH * k),
+        slices::cell(names, token::NAME_WIDTH * k + 1),
         out,
         at + 1,
     )
@@ -48,13 +49,13 @@ fn define_texts(
     doc: &[u8],
     names: &[u32],
     out: &mut [u8],
-    slots: &mut [u32; 9225],
+    slots: &mut [u32; form_slots::SLOTS],
     rows: usize,
     at: usize,
     base: usize,
     q: Parts,
 ) -> usize
-    requires { ⌜ Texts (now doc) (now names) rows × PartsFit rows q × (base + 1025 ≤ 9225) × Low 19000 (now slots) × (at ≤ 900000000000)
+    requires { ⌜ NamesInside (now doc) (now names) rows × PartsFit rows q × (base + region ≤ slotCount) × Low 19000 (now slots) × (at ≤ 900000000000)
         × Fits (length (now out)) at (length (textsBefore (now doc) (now names) (now slots) base q)) ⌝ }
     ensures { λ r. ⌜ Put (now (out .entry)) (now (out .exit)) at r (textsBefore (now (doc .entry)) (now (names .entry)) (now (slots .entry)) base q)
         × (now (slots .exit) ≡ slots3 (now (slots .entry)) base q) ⌝ }
@@ -65,11 +66,17 @@ fn define_texts(
 }
 
 // The definition of a qname, by the numbers of its texts.
-fn put_qname(out: &mut [u8], slots: &[u32; 9225], at: usize, base: usize, q: Parts) -> usize
-    requires { ⌜ PartsFit 1024 q × (base + 1025 ≤ 9225) × Low 20000 (now slots) × (at ≤ 1000000000000) ⌝ }
+fn put_qname(
+    out: &mut [u8],
+    slots: &[u32; form_slots::SLOTS],
+    at: usize,
+    base: usize,
+    q: Parts,
+) -> usize
+    requires { ⌜ PartsFit 1024 q × (base + region ≤ slotCount) × Low 20000 (now slots) × (at ≤ 1000000000000) ⌝ }
     ensures { λ r. ⌜ Put (now (out .entry)) (now (out .exit)) at r (qnameNumbers (now (slots .entry)) base q) ⌝ }
 {
-    form_output::put(out, at, 0xEF);
+    form_output::put(out, at, token::QNAMEDEF_TOKEN);
     let x = form_output::put_number(out, at + 1, form_slots::number_in(slots, base, q.uri));
     let y = form_output::put_number(out, x, form_slots::number_in(slots, base, q.prefix));
     form_output::put_number(out, y, form_slots::number_in(slots, base, q.local))
@@ -80,15 +87,15 @@ fn define_qname(
     doc: &[u8],
     names: &[u32],
     out: &mut [u8],
-    slots: &mut [u32; 9225],
-    qslots: &mut [u32; 9225],
+    slots: &mut [u32; form_slots::SLOTS],
+    qslots: &mut [u32; form_slots::SLOTS],
     rows: usize,
     at: usize,
     base: usize,
     q: Parts,
     class: usize,
 ) -> usize
-    requires { ⌜ Texts (now doc) (now names) rows × PartsFit rows q × (1 ≤ class) × (class ≤ 1024) × (base + 1025 ≤ 9225) × Low 19000 (now slots)
+    requires { ⌜ NamesInside (now doc) (now names) rows × PartsFit rows q × (1 ≤ class) × (class ≤ 1024) × (base + region ≤ slotCount) × Low 19000 (now slots)
         × Low 19000 (now qslots) × (at ≤ 900000000000)
         × Fits (length (now out)) at (length (qnameBefore (now doc) (now names) (now slots) (now qslots) base q class)) ⌝ }
     ensures { λ r. ⌜ Put (now (out .entry)) (now (out .exit)) at r (qnameBefore (now (doc .entry)) (now (names .entry)) (now (slots .entry)) (now (qslots .entry)) base q class)
@@ -108,8 +115,8 @@ pub fn refer(
     doc: &[u8],
     names: &[u32],
     out: &mut [u8],
-    slots: &mut [u32; 9225],
-    qslots: &mut [u32; 9225],
+    slots: &mut [u32; form_slots::SLOTS],
+    qslots: &mut [u32; form_slots::SLOTS],
     rows: usize,
     at: usize,
     base: usize,
@@ -117,7 +124,7 @@ pub fn refer(
     q: Parts,
     class: usize,
 ) -> usize
-    requires { ⌜ Texts (now doc) (now names) rows × PartsFit rows q × (1 ≤ class) × (class ≤ 1024) × (base + 1025 ≤ 9225) × Low 19000 (now slots)
+    requires { ⌜ NamesInside (now doc) (now names) rows × PartsFit rows q × (1 ≤ class) × (class ≤ 1024) × (base + region ≤ slotCount) × Low 19000 (now slots)
         × Low 19000 (now qslots) × (at ≤ 900000000000)
         × Fits (length (now out)) at (length (qnameBefore (now doc) (now names) (now slots) (now qslots) base q class)) ⌝ }
     ensures { λ r. ⌜ Put (now (out .entry)) (now (out .exit)) at r (qnameBefore (now (doc .entry)) (now (names .entry)) (now (slots .entry)) (now (qslots .entry)) base q class

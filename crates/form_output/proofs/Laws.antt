@@ -52,11 +52,7 @@ pub fits-first : {room at : ℕ} (a c : List ℕ) → Fits room at (length (a ++
 fits-first a c (inl h) = inl h
 fits-first a c (inr h) = let e = length-append a c in inr (omega arith)
 
-pub fits-then : {b m : List ℕ} {room at p : ℕ} {a : List ℕ} (c : List ℕ) → Put b m at p a → Fits room at (length (a ++ c)) → Fits room p (length c)
-fits-then c x (inl h) = let e = x .past in inl (omega arith)
-fits-then {a = a} c x (inr h) = let e = x .past in let f = length-append a c in inr (omega arith)
-
--- the same, where the room is that of the output with the first bytes in it
+-- room for what follows some bytes, where it is that of the output with them in it
 pub fits-after : {b m : List ℕ} {at p : ℕ} {a : List ℕ} (size : ℕ) → Put b m at p a → Fits (length b) at (length a + size) → Fits (length m) p size
 fits-after size x (inl h) = let l = put-length x in let e = x .past in inl (omega arith)
 fits-after size x (inr h) = let l = put-length x in let e = x .past in inr (omega arith)

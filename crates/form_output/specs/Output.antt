@@ -1,15 +1,11 @@
--- Bytes laid into a lent output from a place on. An output that ends at or before the place takes none of them: so one
--- function serves to measure and to write.
+-- Serves the code. Bytes laid into a lent output from a place on. An output that ends at or before the place takes none of
+-- them: so one function serves to measure and to write.
 use Prim.Native.Nat.{ℕ, _+_, _≤_}
 use mathlib.Core.Path.{_≡_}
 use mathlib.Core.Logic.{_⊎_}
 use mathlib.Core.List.{List}
 use lib.ListN.{length}
 use lib.Seq.{sets}
-
--- places in an output stay below this: no sum of a place and a length wraps
-abbrev pub furthest : ℕ
-furthest = 1099511627776
 
 -- so many bytes from a place on lie all past an output of this room, or all in it
 abbrev pub Fits : ℕ → ℕ → ℕ → Type 0

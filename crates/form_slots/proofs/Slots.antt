@@ -1,6 +1,6 @@
 -- The ways out of the look-ups and of clearing. Assumes nothing.
 use Prim.Native.Nat.{ℕ, zero, suc, _+_, _-_, _*_, _≤_, _<_}
-use mathlib.Core.Path.{_≡_, refl, _∙_, ap}
+use mathlib.Core.Path.{_≡_, refl, _∙_}
 use mathlib.Core.Bool.{Bool, true, false}
 use mathlib.Core.List.{List}
 use native.Mathlib.Omega.{arith}
@@ -8,17 +8,15 @@ use lib.Dec.{eqb}
 use lib.ListN.{length, getD, set, length-set}
 use lib.Seq.{getD-set-same, getD-set-other}
 use borrow.Author.Tests.{eqb-true, eqb-false}
-use Rattle.form_slots.specs.Slots.{classAt, marked, numberIn, partsAt, Low, Cleared}
-
-pub class-row : (classes : List ℕ) (row : ℕ) {r : ℕ} → (row ≡ 0 → ⊥) → r ≡ getD classes (row - 1) 0 → r ≡ classAt classes row
-class-row classes zero n e = absurd (n refl)
-class-row classes (suc k) n e = let i : suc k - 1 ≡ k = omega arith in e ∙ ap (λ (j : ℕ). getD classes j 0) i
+use Rattle.form_slots.specs.Slots.{marked, numberIn, partsAt, Low, Cleared}
+use Rattle.classes.specs.Search.{classAt}
+use Rattle.token.specs.Answers.{qnameWidth}
 
 pub slot-number : (slots : List ℕ) (base class : ℕ) {r : ℕ} → (class ≡ 0 → ⊥) → r ≡ getD slots (base + class) 0 → r ≡ numberIn slots base class
 slot-number slots base zero n e = absurd (n refl)
 slot-number slots base (suc k) n e = e
 
-pub parts-is : (qnames classes : List ℕ) (k : ℕ) {x y z u v w : ℕ} → x ≡ getD qnames (3 * k) 0 → y ≡ getD qnames (3 * k + 1) 0 → z ≡ getD qnames (3 * k + 2) 0
+pub parts-is : (qnames classes : List ℕ) (k : ℕ) {x y z u v w : ℕ} → x ≡ getD qnames (qnameWidth * k) 0 → y ≡ getD qnames (qnameWidth * k + 1) 0 → z ≡ getD qnames (qnameWidth * k + 2) 0
     → u ≡ classAt classes x → v ≡ classAt classes y → w ≡ classAt classes z → record { uri = u; prefix = v; local = w } ≡ partsAt qnames classes k
 parts-is qnames classes k a b c d e f = rw (d, e, f, a, b, c)
 

@@ -1,4 +1,5 @@
--- What a document of the form has defined, in regions of one array: at its base how many, and behind it for each class its number or 0.
+-- Serves the code. What a document of the form has defined, in regions of one array: at its base how many, and behind it for
+-- each class its number or 0.
 use Prim.Native.Nat.{ℕ, zero, suc, _+_, _-_, _*_, _≤_, _<_}
 use mathlib.Core.Path.{_≡_}
 use mathlib.Core.Bool.{Bool, false, cond}
@@ -6,11 +7,15 @@ use mathlib.Core.List.{List}
 use lib.Dec.{eqb}
 use lib.ListN.{length, getD, set}
 use Rattle.form_slots.specs.declared.Parts.{Parts}
+use Rattle.classes.specs.Search.{classAt}
+use Rattle.token.specs.Answers.{qnameWidth}
 
--- the class of a row; row 0 is the empty name
-abbrev pub classAt : List ℕ → ℕ → ℕ
-classAt classes zero = 0
-classAt classes (suc k) = getD classes k 0
+-- the numbers of one document's region, and those of all: the outer document and 8 nested ones
+abbrev pub region : ℕ
+region = 1025
+
+abbrev pub slotCount : ℕ
+slotCount = 9225
 
 -- a class that has to be defined; class 0 is the empty text
 abbrev pub isNew : List ℕ → ℕ → ℕ → Bool
@@ -34,16 +39,16 @@ numberIn slots base (suc k) = getD slots (base + suc k) 0
 abbrev pub partsAt : List ℕ → List ℕ → ℕ → Parts
 partsAt qnames classes k =
     record {
-      uri = classAt classes (getD qnames (3 * k) 0);
-      prefix = classAt classes (getD qnames (3 * k + 1) 0);
-      local = classAt classes (getD qnames (3 * k + 2) 0);
+      uri = classAt classes (getD qnames (qnameWidth * k) 0);
+      prefix = classAt classes (getD qnames (qnameWidth * k + 1) 0);
+      local = classAt classes (getD qnames (qnameWidth * k + 2) 0);
     }
 
 -- ---- bounds
 
 -- each number is at most so much
 pub record Low (most : ℕ) (slots : List ℕ) : Type 0 where
-  pub long : length slots ≡ 9225
+  pub long : length slots ≡ slotCount
   pub each : (k : ℕ) → getD slots k 0 ≤ most
 
 pub record PartsFit (rows : ℕ) (q : Parts) : Type 0 where
@@ -54,6 +59,6 @@ pub record PartsFit (rows : ℕ) (q : Parts) : Type 0 where
 -- the 1,025 numbers from a base on are 0, the others as they were
 pub record Cleared (before after : List ℕ) (base : ℕ) : Type 0 where
   pub long : length after ≡ length before
-  pub inside : (k : ℕ) → base ≤ k → k < base + 1025 → getD after k 0 ≡ 0
+  pub inside : (k : ℕ) → base ≤ k → k < base + region → getD after k 0 ≡ 0
   pub under : (k : ℕ) → k < base → getD after k 0 ≡ getD before k 0
-  pub over : (k : ℕ) → base + 1025 ≤ k → getD after k 0 ≡ getD before k 0
+  pub over : (k : ℕ) → base + region ≤ k → getD after k 0 ≡ getD before k 0

@@ -2,7 +2,14 @@
 ghost use mathlib.Core.Path.{_≡_};
 ghost use Prim.Native.Nat.{_+_, _*_, _≤_, _<_};
 ghost use lib.ListN.{length, getD};
-ghost use Rattle.form_slots.specs.Slots.{classAt, marked, numberIn, partsAt, Low, Cleared};
+ghost use Rattle.form_slots.specs.Slots.{marked, numberIn, partsAt, Low, Cleared, slotCount, region};
+ghost use Rattle.token.specs.Answers.{qnameWidth};
+
+// The numbers of one document: how many classes are defined, and the number of each.
+pub const REGION: usize = 1025;
+
+// A region for the outer document and for each nested one.
+pub const SLOTS: usize = 9225;
 
 // The classes of a qname's URI, prefix and local name.
 pub struct Parts {
@@ -11,32 +18,27 @@ pub struct Parts {
     pub local: usize,
 }
 
-// The class of a row; row 0 is the empty name.
-pub fn class_at(classes: &[u32; 1024], row: usize) -> usize
-    requires { ⌜ (row ≤ 1024) × (length (now classes) ≡ 1024) ⌝ }
-    ensures { λ r. ⌜ r ≡ classAt (now (classes .entry)) row ⌝ }
-{
-    if row == 0 {
-        return 0;
-    }
-    slices::cell(classes, row - 1)
-}
-
 // The classes of the names of qname row k, counted from 0.
-pub fn parts_at(qnames: &[u32], classes: &[u32; 1024], k: usize) -> Parts
-    requires { ⌜ (k < 1024) × (3 * k + 3 ≤ length (now qnames)) × (length (now classes) ≡ 1024) × (getD (now qnames) (3 * k) 0 ≤ 1024)
-        × (getD (now qnames) (3 * k + 1) 0 ≤ 1024) × (getD (now qnames) (3 * k + 2) 0 ≤ 1024) ⌝ }
+pub fn parts_at(qnames: &[u32], classes: &[u32; token::NAME_ROWS], k: usize) -> Parts
+    requires { ⌜ (k < 1024) × (qnameWidth * k + qnameWidth ≤ length (now qnames)) × (getD (now qnames) (qnameWidth * k) 0 ≤ 1024)
+        × (getD (now qnames) (qnameWidth * k + 1) 0 ≤ 1024) × (getD (now qnames) (qnameWidth * k + 2) 0 ≤ 1024) ⌝ }
     ensures { λ r. ⌜ r ≡ partsAt (now (qnames .entry)) (now (classes .entry)) k ⌝ }
 {
-    let uri = class_at(classes, slices::cell(qnames, 3 * k));
-    let prefix = class_at(classes, slices::cell(qnames, 3 * k + 1));
-    let local = class_at(classes, slices::cell(qnames, 3 * k + 2));
+    let uri = classes::class_at(classes, slices::cell(qnames, token::QNAME_WIDTH * k)) as usize;
+    let prefix = classes::class_at(
+        classes,
+        slices::cell(qnames, token::QNAME_WIDTH * k + 1),
+    ) as usize;
+    let local = classes::class_at(
+        classes,
+        slices::cell(qnames, token::QNAME_WIDTH * k + 2),
+    ) as usize;
     Parts { uri, prefix, local }
 }
 
 // The number of a class in the document whose region begins at `base`; 0 where it is not defined.
-pub fn number_in(slots: &[u32; 9225], base: usize, class: usize) -> usize
-    requires { ⌜ (base + class < 9225) × (length (now slots) ≡ 9225) ⌝ }
+pub fn number_in(slots: &[u32; SLOTS], base: usize, class: usize) -> usize
+    requires { ⌜ (base + class < slotCount) × (length (now slots) ≡ slotCount) ⌝ }
     ensures { λ r. ⌜ r ≡ numberIn (now (slots .entry)) base class ⌝ }
 {
     if class == 0 {
@@ -46,8 +48,8 @@ pub fn number_in(slots: &[u32; 9225], base: usize, class: usize) -> usize
 }
 
 // Gives a class the next number.
-pub fn mark(slots: &mut [u32; 9225], base: usize, class: usize)
-    requires { ⌜ (base + class < 9225) × Low 20000 (now slots) ⌝ }
+pub fn mark(slots: &mut [u32; SLOTS], base: usize, class: usize)
+    requires { ⌜ (base + class < slotCount) × Low 20000 (now slots) ⌝ }
     ensures { λ _. ⌜ now (slots .exit) ≡ marked (now (slots .entry)) base class ⌝ }
 {
     let count = slots[base] + 1;
@@ -56,12 +58,12 @@ pub fn mark(slots: &mut [u32; 9225], base: usize, class: usize)
 }
 
 // A nested document begins with nothing defined.
-pub fn clear(slots: &mut [u32; 9225], base: usize)
-    requires { ⌜ (base + 1025 ≤ 9225) × (length (now slots) ≡ 9225) ⌝ }
+pub fn clear(slots: &mut [u32; SLOTS], base: usize)
+    requires { ⌜ (base + region ≤ slotCount) × (length (now slots) ≡ slotCount) ⌝ }
     ensures { λ _. ⌜ Cleared (now (slots .entry)) (now (slots .exit)) base ⌝ }
 {
     let mut i: usize = 0;
-    while i < 1025 {
+    while i < REGION {
         slots[base + i] = 0;
         i += 1;
     }

@@ -5,7 +5,7 @@ use mathlib.Core.Bool.{Bool, true, false, _||_}
 use mathlib.Core.List.{List, _∷_}
 use Rattle.token.specs.Tokens.{classOf}
 use Rattle.token.specs.declared.Class.the-variants as class
-use Rattle.modes.specs.Modes.{content, listing, declares, is, afterMetadata, afterMisc, afterValue}
+use Rattle.modes.specs.Modes.{content, listing, inDeclaration, is, afterMetadata, afterMisc, afterValue}
 use Rattle.scan.specs.Steps.{classStep}
 use Rattle.modes.specs.declared.Mode.{Mode}
 use Rattle.modes.specs.declared.Mode.the-variants as mode
@@ -22,7 +22,7 @@ use Rattle.grammar.proofs.Steps.{stateOf, Reach, stay, _⨾_}
 -- ---- modes, one by one
 
 -- no token but content stands in a declaration
-content-not : (m : Mode) → content m ≡ true → declares m ≡ false
+content-not : (m : Mode) → content m ≡ true → inDeclaration m ≡ false
 content-not mode.Content c = refl
 content-not mode.Tag c = refl
 content-not mode.First c = refl
@@ -171,12 +171,12 @@ module _ (opened : ℕ → List Scope → ℕ) (nested : List Scope → ℕ) (Fi
     parts (cons (part-metadata x) y) = _⨾_ opened nested doc room (steps.metadata opened nested doc room e os mode.Attributes refl refl x) (parts y)
     parts (cons (part-value x) y) = _⨾_ opened nested doc room (steps.value opened nested doc room e os mode.Attributes refl refl x) (parts y)
 
-    metas : (m : Mode) {s t : Point} → declares m ≡ false → (content m || listing m) ≡ true → afterMetadata m ≡ m → Star (Metadata doc) s t
+    metas : (m : Mode) {s t : Point} → inDeclaration m ≡ false → (content m || listing m) ≡ true → afterMetadata m ≡ m → Star (Metadata doc) s t
         → Reach opened nested doc room (stateOf s m e os) (stateOf t m e os)
     metas m d c z nil = stay opened nested doc room
     metas m d c z (cons x y) = _⨾_ opened nested doc room (rw z at (steps.metadata opened nested doc room e os m d c x)) (metas m d c z y)
 
-    one-attribute : (m : Mode) {s t : Point} → declares m ≡ false → (content m || listing m) ≡ true → afterMetadata m ≡ m → (is m mode.Tag || listing m) ≡ true
+    one-attribute : (m : Mode) {s t : Point} → inDeclaration m ≡ false → (content m || listing m) ≡ true → afterMetadata m ≡ m → (is m mode.Tag || listing m) ≡ true
         → Attribute doc s t → Reach opened nested doc room (stateOf s m e os) (stateOf t mode.Attributes e os)
     one-attribute m d c z a (attribute {t = t} w b n p) =
         _⨾_ opened nested doc room (metas m d c z w) (_⨾_ opened nested doc room (steps.attribute opened nested doc room e os m t d a b n) (parts p))

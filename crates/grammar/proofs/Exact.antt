@@ -31,7 +31,7 @@ use Rattle.machine.proofs.Found.{Found, found-step}
 use Rattle.machine.proofs.Readings.{accepted-ends}
 use Rattle.grammar.specs.Points.{Point, Rows, rowsAt, blank}
 use Rattle.grammar.specs.Grammar.{Header, Derives}
-use Rattle.grammar.specs.Accepts.{rowsIn, Accepts, eventsIn}
+use Rattle.grammar.specs.Accepts.{rowsIn, Accepts, eventsDerived}
 use Rattle.grammar.proofs.Leaves.{header-found, header-derived}
 use Rattle.grammar.proofs.Rest.{wholly, ending}
 use Rattle.grammar.proofs.Sound.{pointOf, Left, sound}
@@ -162,9 +162,9 @@ module _ (doc : List ℕ) (room : Room) where
   refused-none r version rows g = r (derived-accepts g .number-is)
 
   -- demand 2: the events of the derivation's rows, names by text, are those that reading's tables give
-  pub events-agree : (version : ℕ) (rows : Rows) → Derives doc room version rows → eventsOf doc (reading doc room .final) ≡ eventsIn doc rows
+  pub events-agree : (version : ℕ) (rows : Rows) → Derives doc room version rows → eventsOf doc (reading doc room .final) ≡ eventsDerived doc rows
   unfolding eventsOf
-  events-agree version rows g = ap (eventsIn doc) (derived-accepts g .rows-are)
+  events-agree version rows g = ap (eventsDerived doc) (derived-accepts g .rows-are)
 
   -- demand 2: reading answers 0 with this version and these rows exactly when the document is derived with them within the limits
   pub exactly : (version : ℕ) (rows : Rows) → Accepts doc room version rows ↔ Derives doc room version rows

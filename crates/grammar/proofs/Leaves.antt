@@ -15,7 +15,7 @@ use Rattle.sequences.proofs.Tests.{cond-if, and-left, and-right}
 use Rattle.token.specs.Answers.{largest}
 use Rattle.token.specs.declared.NameNumber.{NameNumber}
 use Rattle.token.specs.declared.QnameNumber.{QnameNumber}
-use Rattle.number.specs.Number.{Front, spelled, unended, cut, after, front, numberAt}
+use Rattle.number.specs.Number.{NumberFront, spelled, unended, cut, after, front, numberAt}
 use Rattle.number.specs.Number as numbers
 use Rattle.number.specs.declared.Number as declared
 use Rattle.number.specs.declared.Number.the-variants as number
@@ -23,7 +23,7 @@ use Rattle.value.specs.Fields.{textAfter, textAt}
 use Rattle.value.specs.declared.Text.{Text}
 use Rattle.value.specs.declared.Text.the-variants as text
 use Rattle.fields.specs.References.{nameAfter, nameAt, qnameAfter, qnameAt}
-use Rattle.fields.specs.Headers.{judged, headerAt}
+use Rattle.fields.specs.Headers.{headerJudged, headerAt}
 use Rattle.fields.specs.declared.Name as names
 use Rattle.fields.specs.declared.Name.the-variants as name
 use Rattle.fields.specs.declared.Qname as qnames
@@ -37,12 +37,12 @@ use Rattle.grammar.specs.Grammar.{Name, Qname, Header}
 module _ (doc : List ℕ) where
   -- ---- numbers
 
-  abbrev FrontIs : ℕ → ℕ → Front → Type 0
+  abbrev FrontIs : ℕ → ℕ → NumberFront → Type 0
   FrontIs most p (spelled value size) = Digits doc most p value (p + size)
   FrontIs most p unended = Unit
   FrontIs most p cut = Unit
 
-  after-is : (most p b : ℕ) → Byte doc p b → 128 ≤ b → (f : Front) → FrontIs most (p + 1) f → FrontIs (suc most) p (after b f)
+  after-is : (most p b : ℕ) → Byte doc p b → 128 ≤ b → (f : NumberFront) → FrontIs most (p + 1) f → FrontIs (suc most) p (after b f)
   after-is most p b e h (spelled value size) d =
       let q : (p + 1) + size ≡ p + suc size = omega arith in
       rw (← q) (highbyte e h d)
@@ -80,7 +80,7 @@ module _ (doc : List ℕ) where
   NumberIs most p (number.Is value next) = Number doc most p value next
   NumberIs most p (number.Refused n place) = Unit
 
-  judged-is : (most p : ℕ) (f : Front) → FrontIs most p f → NumberIs most p (numbers.judged doc p f)
+  judged-is : (most p : ℕ) (f : NumberFront) → FrontIs most p f → NumberIs most p (numbers.numberJudged doc p f)
   judged-is most p (spelled value size) d =
       cond-if (NumberIs most p) (leb value largest) _ _ (λ t. record { spelled = d; small = leb-true _ _ t }) (λ t. tt)
   judged-is most p unended d = tt
@@ -166,9 +166,9 @@ module _ (doc : List ℕ) where
 
   -- ---- headers
 
-  -- a byte that is judged right lies between the two bounds
+  -- a byte that is headerJudged right lies between the two bounds
   judged-if : (P : headers.Header → Type 0) → ((n p : ℕ) → P (header.Refused n p)) → (at first last : ℕ) (on : headers.Header)
-      → (at < length doc → first ≤ getD doc at 0 → getD doc at 0 ≤ last → P on) → P (judged doc at first last on)
+      → (at < length doc → first ≤ getD doc at 0 → getD doc at 0 ≤ last → P on) → P (headerJudged doc at first last on)
   judged-if P r at first last on f =
       cond-if P (ltb at (length doc)) _ _
       (λ t. cond-if P (leb first (getD doc at 0) && leb (getD doc at 0) last) _ _

@@ -20,7 +20,7 @@ use Rattle.number.specs.Number.{numberAt}
 use Rattle.number.specs.declared.Number as numbers
 use Rattle.number.specs.declared.Number.the-variants as number
 use Rattle.rules.specs.Rules.{decimalSize, decimalLawful, timeBytes, dayWithin, zoneLawful, timeLawful, zonedLawful, lawful}
-use Rattle.value.specs.Fields.{needed, textAfter, textPayload, textAt, blobAfter, decimalAfter, timeField, qnameAfter, extentAt, ruled, fieldAt}
+use Rattle.value.specs.Fields.{needed, textAfter, textPayload, textAt, blobAfter, decimalAfter, timeField, qnamePayload, extentAt, ruled, fieldAt}
 use Rattle.value.specs.declared.Text as texts
 use Rattle.value.specs.declared.Field.{Field}
 use Rattle.value.specs.declared.Field.the-variants as field
@@ -220,7 +220,7 @@ module _ (doc : List ℕ) where
   unfolding lawful
   date-lawful at first last h l = sqldate h (day-of first last (at + 1) refl (and-right (eqb (length (part doc (at + 1) 3)) 3) _ l))
 
-  qname-none : (at : ℕ) (n : numbers.Number) → Before shape.Qname at (qnameAfter n)
+  qname-none : (at : ℕ) (n : numbers.Number) → Before shape.Qname at (qnamePayload n)
   qname-none at (number.Is value next) = tt
   qname-none at (number.Refused n place) = tt
 

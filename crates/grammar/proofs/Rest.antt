@@ -6,7 +6,7 @@ use mathlib.Core.Bool.{true, _||_}
 use mathlib.Core.List.{List, [], _∷_, _++_}
 use native.Mathlib.Omega.{arith}
 use lib.ListN.{length}
-use Rattle.modes.specs.Modes.{content, listing, declares, is, afterMetadata, afterMisc, afterValue}
+use Rattle.modes.specs.Modes.{content, listing, inDeclaration, is, afterMetadata, afterMisc, afterValue}
 use Rattle.modes.specs.declared.Mode.{Mode}
 use Rattle.modes.specs.declared.Mode.the-variants as mode
 use Rattle.machine.specs.Rows.{event}
@@ -211,7 +211,7 @@ module _ (doc : List ℕ) where
     subset mode.AfterEncoding c x r = clash (cc)
 
     -- either of the two bytes where the standalone byte may stand
-    pub standing : (m : Mode) {s t u : Point} → declares m ≡ true → Standalone doc s t → Rest e os mode.Prolog t u → Rest e os m s u
+    pub standing : (m : Mode) {s t u : Point} → inDeclaration m ≡ true → Standalone doc s t → Rest e os mode.Prolog t u → Rest e os m s u
     standing mode.AfterXmlDecl c x (of-prolog w t b) = of-xmldecl absent x w t b
     standing mode.AfterEncoding c x (of-prolog w t b) = of-encoding x w t b
     standing mode.Content c x r = clash (cc)

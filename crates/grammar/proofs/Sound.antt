@@ -19,7 +19,7 @@ use Rattle.number.specs.Number.{numberAt}
 use Rattle.number.specs.declared.Number as numbers
 use Rattle.number.specs.declared.Number.the-variants as number
 use Rattle.rules.specs.Rules.{lawful}
-use Rattle.value.specs.Fields.{textAt, qnameAfter, extentAt, ruled, fieldAt}
+use Rattle.value.specs.Fields.{textAt, qnamePayload, extentAt, ruled, fieldAt}
 use Rattle.value.specs.declared.Text.the-variants as text
 use Rattle.value.specs.declared.Field.{Field}
 use Rattle.value.specs.declared.Field.the-variants as field
@@ -109,7 +109,7 @@ module _ (doc : List ℕ) where
   asNumber (field.Reference k next) = number.Is (k .0) next
   asNumber (field.Refused n place) = number.Refused n place
 
-  qname-by : (n : numbers.Number) {k : QnameNumber} {next : ℕ} → qnameAfter n ≡ field.Reference k next → n ≡ number.Is (k .0) next
+  qname-by : (n : numbers.Number) {k : QnameNumber} {next : ℕ} → qnamePayload n ≡ field.Reference k next → n ≡ number.Is (k .0) next
   qname-by (number.Is value next) e = ap asNumber e
   qname-by (number.Refused m place) e = rest.clash (cc)
 
@@ -121,7 +121,7 @@ module _ (doc : List ℕ) where
 
   qname-at : (at : ℕ) {k : QnameNumber} {next : ℕ} → fieldAt shape.Qname doc at ≡ field.Reference k next → numberAt 5 doc (at + 1) ≡ number.Is (k .0) next
   unfolding fieldAt extentAt
-  qname-at at e = qname-by (numberAt 5 doc (at + 1)) (ruled-qname at (qnameAfter (numberAt 5 doc (at + 1))) e)
+  qname-at at e = qname-by (numberAt 5 doc (at + 1)) (ruled-qname at (qnamePayload (numberAt 5 doc (at + 1))) e)
 
   referring : (s : State) {c : Class} {k : QnameNumber} {next : ℕ} → Stands doc (view s) c → ValueClass c
       → fieldAt (shapeOf (getD doc (s .at) 0)) doc (s .at) ≡ field.Reference k next → 1 ≤ k .0 → k .0 ≤ length (s .here .qnames)

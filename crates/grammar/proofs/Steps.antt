@@ -12,7 +12,7 @@ use Rattle.token.specs.declared.Class.{Class}
 use Rattle.token.specs.declared.Class.the-variants as class
 use Rattle.value.specs.Fields.{textAt, extentAt, fieldAt}
 use Rattle.value.specs.declared.Text.the-variants as text
-use Rattle.modes.specs.Modes.{content, listing, declares, is, allowed, afterMetadata, afterMisc, afterValue}
+use Rattle.modes.specs.Modes.{content, listing, inDeclaration, is, allowed, afterMetadata, afterMisc, afterValue}
 use Rattle.scan.specs.Steps.{eventDue, textStep, nameStep, qnameStep, extensionStep, piStep, elementStep, attributeStep, valueStep, nestStep, classStep, tokenStep, declaredStep, stepAt}
 use Rattle.modes.specs.declared.Mode.{Mode}
 use Rattle.modes.specs.declared.Mode.the-variants as mode
@@ -125,7 +125,7 @@ module _ (opened : ℕ → List Scope → ℕ) (nested : List Scope → ℕ) (do
   one s x g w = record { grow = grows s x g; steps = λ f. by x g (w f) none }
 
   -- ---- the step of a token
-  at-token : (v : View) (c : Class) {k : ℕ} → Byte doc (v .at) k → declares (v .mode) ≡ false → classOf k ≡ c → allowed c v ≡ true
+  at-token : (v : View) (c : Class) {k : ℕ} → Byte doc (v .at) k → inDeclaration (v .mode) ≡ false → classOf k ≡ c → allowed c v ≡ true
       → classStep c doc v room k ≡ stepAt doc v room
   unfolding stepAt tokenStep
   at-token v c b d e a = rw (lt-ltb _ _ (b .inside), d, b .is, e, a)
@@ -137,7 +137,7 @@ module _ (opened : ℕ → List Scope → ℕ) (nested : List Scope → ℕ) (do
 
   module _ (e : ℕ) (os : List Scope) where
     -- a token with a text; `m′` is the mode after it
-    pub texted : (k : ℕ) (c : Class) (m m′ : Mode) {s t : Point} → declares m ≡ false → classOf k ≡ c → ((s : Point) → allowed c (look (stateOf s m e os)) ≡ true)
+    pub texted : (k : ℕ) (c : Class) (m m′ : Mode) {s t : Point} → inDeclaration m ≡ false → classOf k ≡ c → ((s : Point) → allowed c (look (stateOf s m e os)) ≡ true)
         → ((s : Point) → textStep doc (look (stateOf s m e os)) room k m′ ≡ classStep c doc (look (stateOf s m e os)) room k) → TextToken doc k s t
         → Reach (stateOf s m e os) (stateOf t m′ e os)
     texted k c m m′ {s = s} d o a w (texttoken {place = place} {units = units} b x) =
@@ -171,7 +171,7 @@ module _ (opened : ℕ → List Scope → ℕ) (nested : List Scope → ℕ) (do
         (λ f. rw (lt-ltb _ _ (b .inside), b .is, le-leb _ _ l, lt-ltb _ _ (room-for (s .events) _ (f .events))))
 
     -- metadata
-    pub metadata : (m : Mode) {s t : Point} → declares m ≡ false → (content m || listing m) ≡ true → Metadata doc s t
+    pub metadata : (m : Mode) {s t : Point} → inDeclaration m ≡ false → (content m || listing m) ≡ true → Metadata doc s t
         → Reach (stateOf s m e os) (stateOf t (afterMetadata m) e os)
     unfolding classStep nameStep qnameStep extensionStep classOf
     metadata m {s = s} d a (a-namedef (namedef {place = place} {units = units} b x)) =
@@ -187,20 +187,20 @@ module _ (opened : ℕ → List Scope → ℕ) (nested : List Scope → ℕ) (do
         one (stateOf s m e os) (step.Flush (s .at + 1)) tt (λ f. at-token (look (stateOf s m e os)) class.Flush b d refl a)
 
     -- a PI
-    pub instruction : (m : Mode) {s t : Point} → declares m ≡ false → content m ≡ true → Pi doc s t → Reach (stateOf s m e os) (stateOf t (afterMisc m) e os)
+    pub instruction : (m : Mode) {s t : Point} → inDeclaration m ≡ false → content m ≡ true → Pi doc s t → Reach (stateOf s m e os) (stateOf t (afterMisc m) e os)
     unfolding classStep piStep eventDue classOf
     instruction m {s = s} d a (pi {target = target} {start = start} {place = place} {units = units} b x y) =
         one (stateOf s m e os) (step.Pi (record { 0 = target }) start (place + 2 * units)) tt
         (λ f. rw (name-derived doc s x, text-derived doc y, lt-ltb _ _ (room-for (s .events) _ (f .events))) at (at-token (look (stateOf s m e os)) class.Pi b d refl a))
 
     -- a value
-    value-token : (v : View) {c : Class} {k : ℕ} → Values (v .version) c → classOf k ≡ c → Byte doc (v .at) k → declares (v .mode) ≡ false
+    value-token : (v : View) {c : Class} {k : ℕ} → Values (v .version) c → classOf k ≡ c → Byte doc (v .at) k → inDeclaration (v .mode) ≡ false
         → (content (v .mode) || listing (v .mode)) ≡ true → valueStep doc v room k ≡ stepAt doc v room
     unfolding classStep
     value-token v any-version o b d a = at-token v class.Value b d o a
     value-token v (later h) o b d a = at-token v class.LaterValue b d o (rw (a, h))
 
-    pub value : (m : Mode) {s t : Point} → declares m ≡ false → (content m || listing m) ≡ true → AtomicValue doc s t
+    pub value : (m : Mode) {s t : Point} → inDeclaration m ≡ false → (content m || listing m) ≡ true → AtomicValue doc s t
         → Reach (stateOf s m e os) (stateOf t (afterValue m) e os)
     unfolding valueStep eventDue fieldAt extentAt
     value m {s = s} d a (atomicvalue {token = token} {place = place} {size = size} b k x) =
@@ -211,7 +211,7 @@ module _ (opened : ℕ → List Scope → ℕ) (nested : List Scope → ℕ) (do
         (λ f. rw (atomic-shape k, number-derived doc (x .mb32), le-leb _ _ (x .positive), le-leb _ _ (x .defined), lt-ltb _ _ (room-for (s .events) _ (f .events))) at (value-token (look (stateOf s m e os)) (atomic-class k) refl b d a))
 
     -- attributes
-    pub attribute : (m : Mode) (s : Point) {number next : ℕ} → declares m ≡ false → (is m mode.Tag || listing m) ≡ true → Byte doc (s .at) 0xF6
+    pub attribute : (m : Mode) (s : Point) {number next : ℕ} → inDeclaration m ≡ false → (is m mode.Tag || listing m) ≡ true → Byte doc (s .at) 0xF6
         → Qname doc s (s .at + 1) number next → Reach (stateOf s m e os) (stateOf (referred s 0xF6 number next) mode.Attributes e os)
     unfolding classStep attributeStep eventDue classOf
     attribute m s {number} {next} d a b x =
@@ -231,14 +231,14 @@ module _ (opened : ℕ → List Scope → ℕ) (nested : List Scope → ℕ) (do
         (λ f. rw (lt-ltb _ _ (room-for (s .events) _ (f .events))) at (at-token (look (stateOf s mode.Cdata e os)) class.CdataEnd b refl refl refl))
 
     -- elements
-    pub opens : (m : Mode) (s : Point) {number next : ℕ} → declares m ≡ false → content m ≡ true → opened e os < 64 → Byte doc (s .at) 0xF8
+    pub opens : (m : Mode) (s : Point) {number next : ℕ} → inDeclaration m ≡ false → content m ≡ true → opened e os < 64 → Byte doc (s .at) 0xF8
         → Qname doc s (s .at + 1) number next → Reach (stateOf s m e os) (stateOf (referred s 0xF8 number next) mode.Tag (e + 1) os)
     unfolding classStep elementStep eventDue classOf
     opens m s {number} {next} d a l b x =
         one (stateOf s m e os) (step.Open (record { 0 = number }) next) tt
         (λ f. rw (lt-ltb _ _ l, qname-derived doc s x, lt-ltb _ _ (room-for (s .events) _ (f .events))) at (at-token (look (stateOf s m e os)) class.Element b d refl a))
 
-    pub closes : (m : Mode) (s : Point) → declares m ≡ false → content m ≡ true → Byte doc (s .at) 0xF7
+    pub closes : (m : Mode) (s : Point) → inDeclaration m ≡ false → content m ≡ true → Byte doc (s .at) 0xF7
         → Reach (stateOf s m (e + 1) os) (stateOf (ended s 0xF7) mode.Content e os)
     unfolding classStep eventDue classOf
     closes m s d a b =
@@ -248,14 +248,14 @@ module _ (opened : ℕ → List Scope → ℕ) (nested : List Scope → ℕ) (do
         (λ f. rw (lt-ltb _ _ (room-for (s .events) _ (f .events))) at (at-token (look (stateOf s m (e + 1) os)) class.EndElement b d refl (rw (a, lt-ltb _ _ l)))))
 
     -- nested documents
-    pub nests : (m : Mode) (s : Point) (version : ℕ) → declares m ≡ false → content m ≡ true → nested os < 8 → Byte doc (s .at) 0xEC → Header doc (s .at + 1) version
+    pub nests : (m : Mode) (s : Point) (version : ℕ) → inDeclaration m ≡ false → content m ≡ true → nested os < 8 → Byte doc (s .at) 0xEC → Header doc (s .at + 1) version
         → Reach (stateOf s m e os) (stateOf (headed (nesting s version) version) mode.First 0 (scope (s .version) (s .known) (s .qknown) e ∷ os))
     unfolding classStep nestStep eventDue classOf
     nests m s version d a l b x =
         one (stateOf s m e os) (step.Nest version ((s .at + 1) + 5)) tt
         (λ f. rw (lt-ltb _ _ l, header-derived doc x, lt-ltb _ _ (room-for (s .events) _ (f .events))) at (at-token (look (stateOf s m e os)) class.Nest b d refl a))
 
-    pub leaves : (m : Mode) (s t : Point) → 0 < nested (scope (s .version) (s .known) (s .qknown) e ∷ os) → declares m ≡ false → content m ≡ true → Byte doc (t .at) 0xEB
+    pub leaves : (m : Mode) (s t : Point) → 0 < nested (scope (s .version) (s .known) (s .qknown) e ∷ os) → inDeclaration m ≡ false → content m ≡ true → Byte doc (t .at) 0xEB
         → Reach (stateOf t m 0 (scope (s .version) (s .known) (s .qknown) e ∷ os)) (stateOf (returned s t) mode.Content e os)
     unfolding classStep eventDue classOf
     leaves m s t l d a b =

@@ -21,5 +21,5 @@ pub record Accepts (doc : List ℕ) (room : Room) (version : ℕ) (rows : Rows) 
   pub rows-are : rowsIn (reading doc room .final) ≡ rows
 
 -- the events of some rows, names by text
-abbrev pub eventsIn : List ℕ → Rows → List Event
-eventsIn doc rows = map (eventOf doc (rows .names) (rows .qnames)) (rows .events)
+abbrev pub eventsDerived : List ℕ → Rows → List Event
+eventsDerived doc rows = map (eventOf doc (rows .names) (rows .qnames)) (rows .events)

@@ -8,6 +8,7 @@ use lib.ListN.{length}
 use Rattle.token.specs.Answers.{longest, openElements, nestedDocuments}
 use Rattle.token.specs.declared.Shape.{Shape}
 use Rattle.token.specs.declared.Shape.the-variants as shape
+use Rattle.token.specs.Codes.{XMLDECL-TOKEN, ENCODING-TOKEN, DOCTYPEDECL-TOKEN, SYSTEM-TOKEN, PUBLIC-TOKEN, SUBSET-TOKEN, NAMEDEF-TOKEN, QNAMEDEF-TOKEN, EXTN-TOKEN, FLUSH-DEFINED-NAME-TOKENS, COMMENT-TOKEN, PI-TOKEN, CDATA-TOKEN, CDATAEND-TOKEN, ATTRIBUTE-TOKEN, ENDATTRIBUTES-TOKEN, ELEMENT-TOKEN, ENDELEMENT-TOKEN, NEST-TOKEN, ENDNEST-TOKEN}
 use Rattle.scan.specs.declared.Room.{Room}
 use Rattle.grammar.specs.Points.{Point, Rows, rowsAt, blank, texted, stoodAlone, instructed, referred, ended, valued, named, qnamed, moved, flushed, headed, nesting, returned}
 use Rattle.grammar.specs.Fields.{Byte, Mb32, TextData}
@@ -79,44 +80,44 @@ module _ (doc : List ℕ) where
 
   -- xmldecl = XMLDECL-TOKEN textdata [ENCODING-TOKEN textdata] standalone
   pub data XmlDecl : Point → Point → Type 0 where
-    xmldecl : {s t u v : Point} → TextToken 0xFE s t → Optional (TextToken 0xFD) t u → Standalone u v → XmlDecl s v
+    xmldecl : {s t u v : Point} → TextToken XMLDECL-TOKEN s t → Optional (TextToken ENCODING-TOKEN) t u → Standalone u v → XmlDecl s v
 
   -- doctypedecl = DOCTYPEDECL-TOKEN textdata [SYSTEM-TOKEN textdata] [PUBLIC-TOKEN textdata] [SUBSET-TOKEN textdata]
   pub data DocTypeDecl : Point → Point → Type 0 where
-    doctypedecl : {s t u v w : Point} → TextToken 0xFC s t → Optional (TextToken 0xFB) t u → Optional (TextToken 0xFA) u v → Optional (TextToken 0xF9) v w
+    doctypedecl : {s t u v w : Point} → TextToken DOCTYPEDECL-TOKEN s t → Optional (TextToken SYSTEM-TOKEN) t u → Optional (TextToken PUBLIC-TOKEN) u v → Optional (TextToken SUBSET-TOKEN) v w
         → DocTypeDecl s w
 
   -- ---- metadata (2.1.10, 2.2)
 
   -- namedef = NAMEDEF-TOKEN textdata
   pub data NameDef : Point → Point → Type 0 where
-    namedef : {s : Point} {place units : ℕ} → Byte doc (s .at) 0xF0 → TextData doc (s .at + 1) place units → NameDef s (named s place units)
+    namedef : {s : Point} {place units : ℕ} → Byte doc (s .at) NAMEDEF-TOKEN → TextData doc (s .at + 1) place units → NameDef s (named s place units)
 
   -- qnamedef = QNAMEDEF-TOKEN namespaceuri prefix localname, a name each
   pub data QnameDef : Point → Point → Type 0 where
-    qnamedef : {s : Point} {uri prefix local p q next : ℕ} → Byte doc (s .at) 0xEF → Name s (s .at + 1) uri p → Name s p prefix q → Name s q local next
+    qnamedef : {s : Point} {uri prefix local p q next : ℕ} → Byte doc (s .at) QNAMEDEF-TOKEN → Name s (s .at + 1) uri p → Name s p prefix q → Name s q local next
         → QnameDef s (qnamed s uri prefix local next)
 
   -- extension = EXTN-TOKEN length32 *byte
   pub data Extension : Point → Point → Type 0 where
-    extension : {s : Point} {size next : ℕ} → Byte doc (s .at) 0xEA → Mb32 doc (s .at + 1) size next → next + size ≤ length doc → Extension s (moved s (next + size))
+    extension : {s : Point} {size next : ℕ} → Byte doc (s .at) EXTN-TOKEN → Mb32 doc (s .at + 1) size next → next + size ≤ length doc → Extension s (moved s (next + size))
 
   -- metadata = namedef / qnamedef / extension / FLUSH-DEFINED-NAME-TOKENS
   pub data Metadata : Point → Point → Type 0 where
     a-namedef : {s t : Point} → NameDef s t → Metadata s t
     a-qnamedef : {s t : Point} → QnameDef s t → Metadata s t
     an-extension : {s t : Point} → Extension s t → Metadata s t
-    flush-defined-name-tokens : {s : Point} → Byte doc (s .at) 0xE9 → Metadata s (flushed s)
+    flush-defined-name-tokens : {s : Point} → Byte doc (s .at) FLUSH-DEFINED-NAME-TOKENS → Metadata s (flushed s)
 
   -- ---- comments, PIs, CDATA (2.1.4, 2.1.8)
 
   -- comment = COMMENT-TOKEN textdata
   pub data Comment : Point → Point → Type 0 where
-    comment : {s t : Point} → TextToken 0xF3 s t → Comment s t
+    comment : {s t : Point} → TextToken COMMENT-TOKEN s t → Comment s t
 
   -- pi = PI-TOKEN name textdata
   pub data Pi : Point → Point → Type 0 where
-    pi : {s : Point} {target start place units : ℕ} → Byte doc (s .at) 0xF4 → Name s (s .at + 1) target start → TextData doc start place units
+    pi : {s : Point} {target start place units : ℕ} → Byte doc (s .at) PI-TOKEN → Name s (s .at + 1) target start → TextData doc start place units
         → Pi s (instructed s target start (place + 2 * units))
 
   -- misc = comment / pi / metadata
@@ -127,7 +128,7 @@ module _ (doc : List ℕ) where
 
   -- cdsect = 1*(CDATA-TOKEN textdata) CDATAEND-TOKEN
   pub data CdSect : Point → Point → Type 0 where
-    cdsect : {s t u : Point} → TextToken 0xF2 s t → Star (TextToken 0xF2) t u → Byte doc (u .at) 0xF1 → CdSect s (ended u 0xF1)
+    cdsect : {s t u : Point} → TextToken CDATA-TOKEN s t → Star (TextToken CDATA-TOKEN) t u → Byte doc (u .at) CDATAEND-TOKEN → CdSect s (ended u CDATAEND-TOKEN)
 
   -- ---- values (2.3, 2.4)
 
@@ -147,12 +148,12 @@ module _ (doc : List ℕ) where
 
   -- attribute = *metadata ATTRIBUTE-TOKEN qname *(metadata / atomicvalue)
   pub data Attribute : Point → Point → Type 0 where
-    attribute : {s t u : Point} {number next : ℕ} → Star Metadata s t → Byte doc (t .at) 0xF6 → Qname t (t .at + 1) number next
-        → Star Part (referred t 0xF6 number next) u → Attribute s u
+    attribute : {s t u : Point} {number next : ℕ} → Star Metadata s t → Byte doc (t .at) ATTRIBUTE-TOKEN → Qname t (t .at + 1) number next
+        → Star Part (referred t ATTRIBUTE-TOKEN number next) u → Attribute s u
 
   -- 1*attribute ENDATTRIBUTES-TOKEN; metadata before ENDATTRIBUTES belongs to the last attribute
   pub data Attributes : Point → Point → Type 0 where
-    attributes : {s t u : Point} → Attribute s t → Star Attribute t u → Byte doc (u .at) 0xF5 → Attributes s (ended u 0xF5)
+    attributes : {s t u : Point} → Attribute s t → Star Attribute t u → Byte doc (u .at) ENDATTRIBUTES-TOKEN → Attributes s (ended u ENDATTRIBUTES-TOKEN)
 
   -- doctypedecl *misc
   pub data Typed : Point → Point → Type 0 where
@@ -181,12 +182,12 @@ module _ (doc : List ℕ) where
 
     -- element = ELEMENT-TOKEN qname [1*attribute ENDATTRIBUTES-TOKEN] content ENDELEMENT-TOKEN
     pub data Element : Depth → Point → Point → Type 0 where
-      element : {m : Depth} {s a t : Point} {number next : ℕ} → Byte doc (s .at) 0xF8 → Qname s (s .at + 1) number next
-          → Optional Attributes (referred s 0xF8 number next) a → Content m a t → Byte doc (t .at) 0xF7 → Element (inElement m) s (ended t 0xF7)
+      element : {m : Depth} {s a t : Point} {number next : ℕ} → Byte doc (s .at) ELEMENT-TOKEN → Qname s (s .at + 1) number next
+          → Optional Attributes (referred s ELEMENT-TOKEN number next) a → Content m a t → Byte doc (t .at) ENDELEMENT-TOKEN → Element (inElement m) s (ended t ENDELEMENT-TOKEN)
 
     -- nestedbinaryxml = NEST-TOKEN document ENDNEST-TOKEN
     pub data NestedBinaryXml : Depth → Point → Point → Type 0 where
-      nestedbinaryxml : {m : Depth} {version : ℕ} {s t : Point} → Byte doc (s .at) 0xEC → Document m version (nesting s version) t → Byte doc (t .at) 0xEB
+      nestedbinaryxml : {m : Depth} {version : ℕ} {s t : Point} → Byte doc (s .at) NEST-TOKEN → Document m version (nesting s version) t → Byte doc (t .at) ENDNEST-TOKEN
           → NestedBinaryXml (inDocument m) s (returned s t)
 
   -- ---- limits (01, "Numbers that bound the work")

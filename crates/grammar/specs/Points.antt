@@ -5,6 +5,7 @@ use mathlib.Core.List.{List, [], _∷_, _++_}
 use lib.ListN.{length}
 use Rattle.machine.specs.Rows.{NameRow, QnameRow, EventRow, nameRow, qnameRow, event}
 use Rattle.machine.specs.Machine.{rowOf}
+use Rattle.token.specs.Codes.{PI-TOKEN, NEST-TOKEN, ENDNEST-TOKEN}
 
 -- the version, and the rows of the names and of the qnames in force in the order of their numbers, are those of the
 -- innermost document; the rows are those of the whole document
@@ -48,7 +49,7 @@ stoodAlone s value = evented s (event 0 (s .at) value 0) (s .at + 1)
 
 -- F4: the target's row, and the place of the text's length
 abbrev pub instructed : Point → ℕ → ℕ → ℕ → Point
-instructed s target start next = evented s (event 0xF4 (s .at) (rowOf (s .known) target) start) next
+instructed s target start next = evented s (event PI-TOKEN (s .at) (rowOf (s .known) target) start) next
 
 -- F8, F6, 8C: the qname's row
 abbrev pub referred : Point → ℕ → ℕ → ℕ → Point
@@ -88,8 +89,8 @@ headed s version = point (s .at + 5) version [] [] (s .names) (s .qnames) (s .ev
 
 -- EC, whose row has the version of the nested document
 abbrev pub nesting : Point → ℕ → Point
-nesting s version = evented s (event 0xEC (s .at) version 0) (s .at + 1)
+nesting s version = evented s (event NEST-TOKEN (s .at) version 0) (s .at + 1)
 
 -- EB: what was in force before the nested document is so again
 abbrev pub returned : Point → Point → Point
-returned s t = point (t .at + 1) (s .version) (s .known) (s .qknown) (t .names) (t .qnames) (t .events ++ (event 0xEB (t .at) 0 0 ∷ []))
+returned s t = point (t .at + 1) (s .version) (s .known) (s .qknown) (t .names) (t .qnames) (t .events ++ (event ENDNEST-TOKEN (t .at) 0 0 ∷ []))

@@ -1,4 +1,4 @@
--- The hash of a list of numbers: a multiply with carry for each, from the first to the last.
+-- Serves the code. The hash of a list of numbers: a multiply with carry for each, from the first to the last.
 use Prim.Native.Nat.{ℕ, _+_, _*_, _/_, _%_}
 use mathlib.Core.List.{List, [], _∷_}
 
@@ -9,5 +9,9 @@ unfoldable pub hashFrom : ℕ → List ℕ → ℕ
 hashFrom h [] = h
 hashFrom h (x ∷ l) = hashFrom (mixOf h x) l
 
+-- what a hash begins with
+abbrev pub seed : ℕ
+seed = 88172645463325252
+
 abbrev pub hashOf : List ℕ → ℕ
-hashOf l = hashFrom 88172645463325252 l
+hashOf l = hashFrom seed l

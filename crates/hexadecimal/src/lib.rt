@@ -55,7 +55,7 @@ pub fn hex_unit(p: &[u8], k: usize) -> u16
 {
     let b = p[k / 2];
     if k % 2 == 0 {
-        return slices::wide(hex_digit(b / 16));
+        return slices::wide16(hex_digit(b / 16));
     }
-    slices::wide(hex_digit(b % 16))
+    slices::wide16(hex_digit(b % 16))
 }

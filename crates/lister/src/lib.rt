@@ -5,11 +5,19 @@ ghost use mathlib.Core.Path.{_≡_};
 ghost use lib.ListN.{length};
 ghost use Rattle.machine.specs.Machine.{reading};
 ghost use Rattle.machine.specs.Contract.{roomIn};
+ghost use Rattle.machine.specs.Tables.{Filled};
 ghost use Prim.Native.Nat.{_≤_};
 ghost use Rattle.render.specs.Render.{roomFor};
 ghost use Rattle.lister_contract.specs.Contract.{answer, Lists};
-ghost use Rattle.lister_contract.specs.Tables.{Filled, TablesListed};
+ghost use Rattle.lister_contract.specs.Tables.{TablesListed};
 use lister_contract::Answer;
+
+// Numbers of the three arrays that a document's meanings are rendered into: the last holds those of every document.
+const SMALL: usize = 40960;
+
+const MEDIUM: usize = 65536;
+
+const LARGE: usize = 335872;
 
 fn refused(number: u32, place: usize) -> Answer
     ensures { λ r. ⌜ r ≡ answer number place 0 0 ⌝ }
@@ -33,14 +41,15 @@ fn list_tables(
     syms: &mut [u32],
     pairs: &mut [u32],
 ) -> Answer
-    requires { ⌜ Filled (now doc) (now names) (now qnames) (now events) read × (roomFor (length (now doc)) (read .events) ≤ length (now syms)) ⌝ }
+    requires { ⌜ Filled (now doc) (now names) (now qnames) (now events) (read .names) (read .qnames) (read .events)
+        × (roomFor (length (now doc)) (read .events) ≤ length (now syms)) ⌝ }
     ensures { λ r. ⌜ TablesListed (now (doc .entry)) (now (names .entry)) (now (qnames .entry)) (now (events .entry)) read (now (pairs .entry)) (now (pairs .exit)) r ⌝ }
 {
     // a first value whose bytes differ is stored by vector instructions, not by memset
-    let mut classes = [1u32; 1024];
-    let mut starts = [1usize; 2049];
-    let mut hashes = [1u64; 2049];
-    let mut next = [1usize; 2048];
+    let mut classes = [1u32; token::NAME_ROWS];
+    let mut starts = [1usize; twins::BOUNDS];
+    let mut hashes = [1u64; twins::BOUNDS];
+    let mut next = [1usize; twins::PARTS];
     name_classes::name_classes(doc, names, read.names, &mut classes);
     let records = render::render(
         doc,
@@ -73,9 +82,78 @@ fn list_tables(
     }
 }
 
-// Fills the three tables as reading does, and then the list. The meanings are rendered into the smallest of three arrays that
-// has room for every document of this size, so that a small document does not pay for clearing the largest. The local arrays
-// take up to 1.5 MB of the stack.
+// The same with an array of its own: one function for each size, so that a small document does not pay for clearing the largest.
+fn list_small(
+    doc: &[u8],
+    names: &[u32],
+    qnames: &[u32],
+    events: &[u32],
+    read: machine::Answer,
+    pairs: &mut [u32],
+) -> Answer
+    requires { ⌜ Filled (now doc) (now names) (now qnames) (now events) (read .names) (read .qnames) (read .events)
+        × (roomFor (length (now doc)) (read .events) ≤ 40960) ⌝ }
+    ensures { λ r. ⌜ TablesListed (now (doc .entry)) (now (names .entry)) (now (qnames .entry)) (now (events .entry)) read (now (pairs .entry)) (now (pairs .exit)) r ⌝ }
+{
+    let mut syms = [1u32; SMALL];
+    list_tables(doc, names, qnames, events, read, &mut syms, pairs)
+}
+
+fn list_medium(
+    doc: &[u8],
+    names: &[u32],
+    qnames: &[u32],
+    events: &[u32],
+    read: machine::Answer,
+    pairs: &mut [u32],
+) -> Answer
+    requires { ⌜ Filled (now doc) (now names) (now qnames) (now events) (read .names) (read .qnames) (read .events)
+        × (roomFor (length (now doc)) (read .events) ≤ 65536) ⌝ }
+    ensures { λ r. ⌜ TablesListed (now (doc .entry)) (now (names .entry)) (now (qnames .entry)) (now (events .entry)) read (now (pairs .entry)) (now (pairs .exit)) r ⌝ }
+{
+    let mut syms = [1u32; MEDIUM];
+    list_tables(doc, names, qnames, events, read, &mut syms, pairs)
+}
+
+fn list_large(
+    doc: &[u8],
+    names: &[u32],
+    qnames: &[u32],
+    events: &[u32],
+    read: machine::Answer,
+    pairs: &mut [u32],
+) -> Answer
+    requires { ⌜ Filled (now doc) (now names) (now qnames) (now events) (read .names) (read .qnames) (read .events)
+        × (roomFor (length (now doc)) (read .events) ≤ 335872) ⌝ }
+    ensures { λ r. ⌜ TablesListed (now (doc .entry)) (now (names .entry)) (now (qnames .entry)) (now (events .entry)) read (now (pairs .entry)) (now (pairs .exit)) r ⌝ }
+{
+    let mut syms = [1u32; LARGE];
+    list_tables(doc, names, qnames, events, read, &mut syms, pairs)
+}
+
+// Lists through the smallest of the three arrays that has room for every document of this size.
+fn list_read(
+    doc: &[u8],
+    names: &[u32],
+    qnames: &[u32],
+    events: &[u32],
+    read: machine::Answer,
+    pairs: &mut [u32],
+) -> Answer
+    requires { ⌜ Filled (now doc) (now names) (now qnames) (now events) (read .names) (read .qnames) (read .events) ⌝ }
+    ensures { λ r. ⌜ TablesListed (now (doc .entry)) (now (names .entry)) (now (qnames .entry)) (now (events .entry)) read (now (pairs .entry)) (now (pairs .exit)) r ⌝ }
+{
+    let need = 5 * doc.len() + 2 * read.events;
+    if need <= SMALL {
+        return list_small(doc, names, qnames, events, read, pairs);
+    }
+    if need <= MEDIUM {
+        return list_medium(doc, names, qnames, events, read, pairs);
+    }
+    list_large(doc, names, qnames, events, read, pairs)
+}
+
+// Fills the three tables as reading does, and then the list. The local arrays take up to 1.5 MB of the stack.
 pub fn list(
     doc: &[u8],
     names: &mut [u32],
@@ -91,15 +169,5 @@ pub fn list(
     if read.number != 0 {
         return refused(read.number, read.place);
     }
-    let need = 5 * doc.len() + 2 * read.events;
-    if need <= 40960 {
-        let mut small = [1u32; 40960];
-        return list_tables(doc, names, qnames, events, read, &mut small, pairs);
-    }
-    if need <= 65536 {
-        let mut medium = [1u32; 65536];
-        return list_tables(doc, names, qnames, events, read, &mut medium, pairs);
-    }
-    let mut large = [1u32; 335872];
-    list_tables(doc, names, qnames, events, read, &mut large, pairs)
+    list_read(doc, names, qnames, events, read, pairs)
 }

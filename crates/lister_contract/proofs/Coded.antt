@@ -10,29 +10,28 @@ use native.Mathlib.Omega.{arith}
 use lib.Dec.{eqb, ltb}
 use lib.ListN.{getElem?}
 use borrow.Author.Tests.{eqb-true, ltb-true}
-use Rattle.sequences.specs.Lists.{Bytes, part}
+use Rattle.sequences.specs.Lists.{Bytes, part, same}
+use Rattle.sequences.specs.Members.{Every, none, first}
 use Rattle.sequences.proofs.Tests.{cond-if, and-left, and-right}
 use Rattle.sequences.proofs.Units.{bytes-take, bytes-drop}
+use Rattle.sequences.proofs.Members.{every-append}
 use Rattle.token.specs.Tokens.{Token, token, tokens, find, classOf}
 use Rattle.token.specs.declared.Class.{Class}
 use Rattle.token.specs.declared.Class.the-variants as class
 use Rattle.token.specs.declared.Shape.the-variants.{Nothing}
 use Rattle.machine.specs.Rows.{NameRow, QnameRow, EventRow}
 use Rattle.machine.specs.Events.{Event, texted, standalone, pi, qnamed, valued, nest, plain, textIn, nameText, qnameIn, qnameEvent, eventBy, eventOf}
-use Rattle.machine.specs.Facts as facts
-use Rattle.machine.specs.Facts.{Every}
-use Rattle.machine.proofs.Facts.{every-append}
+use Rattle.machine.specs.Tables.{nameRowsIn, qnameRowsIn, eventRowsIn, eventsIn}
+use Rattle.machine.proofs.Tables.{at-inside, length-name-rows}
 use Rattle.plan.specs.Text.{textOf}
-use Rattle.classes.specs.Tables.{nameRowsIn, qnameRowsIn, eventRowsIn}
 use Rattle.classes.specs.Classes.{textsOf}
-use Rattle.classes.proofs.Tables.{at-inside, length-name-rows}
 use Rattle.classes.proofs.Classes as classes
 use Rattle.classes.proofs.Classes.{number-empty, number-some, same-class, name-known, name-text-at, length-texts}
-use Rattle.meaning.specs.Meaning.{Symbol, unit, opening, ending, attribute, closing, value, qname, Attribute, none-open, counted, skipped, same, declares, closed, unless, shownAs, namedSymbols, plainSymbols, symbolsOf, attributeAfter, depthAfter, inside, begins, onto, newIf, pieces, rest, meanings, sameMeaning}
+use Rattle.meaning.specs.Meaning.{Symbol, unit, opening, ending, attribute, closing, value, qname, Attribute, none-open, counted, skipped, declares, closed, unless, shownAs, namedSymbols, plainSymbols, symbolsOf, attributeAfter, depthAfter, inside, begins, onto, newIf, pieces, rest, meanings, sameMeaning}
 use Rattle.meaning.specs.Pairs.{pairsOf}
 use Rattle.meaning.specs.Codes.{codesOf, Classes, Coded}
 use Rattle.meaning.proofs.Codes.{codes-pairs}
-use Rattle.render.specs.Render.{eventsIn, Renderable}
+use Rattle.render.specs.Render.{Renderable}
 use Rattle.marks.specs.Names.{classIn}
 use Rattle.lister_contract.proofs.Units.{Low, units-low, text-low}
 
@@ -151,28 +150,28 @@ module _ (doc names : List ℕ) (rows : ℕ) (b : Bytes doc) (Q : List QnameRow)
 
   rows-coded : (es : List EventRow) → Every (CodedEvent K) (map (eventOf doc N Q) es)
   unfolding eventOf
-  rows-coded [] = facts.none
-  rows-coded (e ∷ es) = facts.first (by-class (classOf (e .token)) e refl) (rows-coded es)
+  rows-coded [] = none
+  rows-coded (e ∷ es) = first (by-class (classOf (e .token)) e refl) (rows-coded es)
 
 -- ---- symbols
 
 module _ (K : List ℕ → Type 0) where
   units-coded : {us : List ℕ} → Every Low us → Every (Coded K) (map unit us)
-  units-coded facts.none = facts.none
-  units-coded (facts.first h hs) = facts.first h (units-coded hs)
+  units-coded none = none
+  units-coded (first h hs) = first h (units-coded hs)
 
   one : (s : Symbol) → Coded K s → Every (Coded K) (s ∷ [])
-  one s h = facts.first h facts.none
+  one s h = first h none
 
   closed-coded : (q : Attribute) → Every (Coded K) (closed q)
-  closed-coded none-open = facts.none
+  closed-coded none-open = none
   closed-coded counted = one closing tt
-  closed-coded skipped = facts.none
+  closed-coded skipped = none
 
   unless-coded : (q : Attribute) {l : List Symbol} → Every (Coded K) l → Every (Coded K) (unless q l)
   unless-coded none-open h = h
   unless-coded counted h = h
-  unless-coded skipped h = facts.none
+  unless-coded skipped h = none
 
   shown-coded : (code : ℕ) (payload : List ℕ) (t : Option (List ℕ)) → textOf code payload ≡ t → (code < 256) × Bytes payload
       → Every (Coded K) (shownAs code payload t)
@@ -182,40 +181,40 @@ module _ (K : List ℕ → Type 0) where
   symbols-coded : (q : Attribute) (e : Event) → CodedEvent K e → Every (Coded K) (symbolsOf q e)
   unfolding namedSymbols plainSymbols
   symbols-coded q (texted code t) h =
-      cond-if (Every (Coded K)) (eqb code 0xF2) _ _ (λ _. units-coded (units-low t h)) (λ _. facts.none)
-  symbols-coded q (standalone b) h = facts.none
-  symbols-coded q (pi target t) h = facts.none
+      cond-if (Every (Coded K)) (eqb code 0xF2) _ _ (λ _. units-coded (units-low t h)) (λ _. none)
+  symbols-coded q (standalone b) h = none
+  symbols-coded q (pi target t) h = none
   symbols-coded q (qnamed code uri prefix local) h =
       cond-if (Every (Coded K)) (eqb code 0xF8) _ _ (λ _. one (opening uri local) h)
       (λ _. cond-if (Every (Coded K)) (eqb code 0xF6) _ _
       (λ _. every-append (closed-coded q)
-      (cond-if (Every (Coded K)) (declares uri prefix local) _ _ (λ _. facts.none) (λ _. one (attribute uri local) h)))
+      (cond-if (Every (Coded K)) (declares uri prefix local) _ _ (λ _. none) (λ _. one (attribute uri local) h)))
       (λ _. unless-coded q (one (qname uri local) h)))
   symbols-coded q (valued code payload) h = unless-coded q (shown-coded code payload (textOf code payload) refl h)
-  symbols-coded q (nest version) h = facts.none
+  symbols-coded q (nest version) h = none
   symbols-coded q (plain code) h =
       cond-if (Every (Coded K)) (eqb code 0xF7) _ _ (λ _. one ending tt)
-      (λ _. cond-if (Every (Coded K)) (eqb code 0xF5) _ _ (λ _. closed-coded q) (λ _. facts.none))
+      (λ _. cond-if (Every (Coded K)) (eqb code 0xF5) _ _ (λ _. closed-coded q) (λ _. none))
 
   onto-coded : {l : List Symbol} {ps : List (List Symbol)} → Every (Coded K) l → Every (Every (Coded K)) ps → Every (Every (Coded K)) (onto l ps)
-  onto-coded h facts.none = facts.first h facts.none
-  onto-coded h (facts.first p ps) = facts.first (every-append h p) ps
+  onto-coded h none = first h none
+  onto-coded h (first p ps) = first (every-append h p) ps
 
   new-coded : (t : Bool) {ps : List (List Symbol)} → Every (Every (Coded K)) ps → Every (Every (Coded K)) (newIf t ps)
-  new-coded true h = facts.first facts.none h
+  new-coded true h = first none h
   new-coded false h = h
 
   pieces-coded : (depth : ℕ) (q : Attribute) (es : List Event) → Every (CodedEvent K) es → Every (Every (Coded K)) (pieces depth q es)
   unfolding pieces
-  pieces-coded depth q [] facts.none = facts.first facts.none facts.none
-  pieces-coded depth q (e ∷ es) (facts.first h hs) =
+  pieces-coded depth q [] none = first none none
+  pieces-coded depth q (e ∷ es) (first h hs) =
       new-coded (begins depth e) (onto-coded
-      (cond-if (Every (Coded K)) (inside depth e) (symbolsOf q e) [] (λ _. symbols-coded q e h) (λ _. facts.none))
+      (cond-if (Every (Coded K)) (inside depth e) (symbolsOf q e) [] (λ _. symbols-coded q e h) (λ _. none))
       (pieces-coded (depthAfter depth e) (attributeAfter q e) es hs))
 
   rest-coded : {ps : List (List Symbol)} → Every (Every (Coded K)) ps → Every (Every (Coded K)) (rest ps)
-  rest-coded facts.none = facts.none
-  rest-coded (facts.first p ps) = ps
+  rest-coded none = none
+  rest-coded (first p ps) = ps
 
   meanings-coded : (es : List Event) → Every (CodedEvent K) es → Every (Every (Coded K)) (meanings es)
   unfolding meanings
@@ -226,7 +225,7 @@ module _ (K : List ℕ → Type 0) where
 module _ {doc names qnames events classes : List ℕ} {rows qrows count : ℕ} (d : Renderable doc names qnames events classes rows qrows count) where
   -- the classes of known texts are at most 1,024, and equal only for equal texts
   pub classes-known : Classes (Known doc names rows) (classIn doc names rows)
-  classes-known = few-known doc names rows (d .few)
+  classes-known = few-known doc names rows (d .filled .few)
 
   module _ (b : Bytes doc) where
     -- each symbol of the meanings has a code

@@ -7,80 +7,25 @@ use mathlib.Core.List.{List}
 use native.Mathlib.Omega.{arith}
 use lib.Dec.{ltb, eqb}
 use lib.ListN.{length}
-use Rattle.sequences.specs.Lists.{overlay, Front, Bytes}
+use Rattle.sequences.specs.Lists.{overlay, Bytes, same}
 use Rattle.sequences.proofs.Tests.{tests}
 use Rattle.token.specs.Answers.{accepted, noPairs}
-use Rattle.machine.specs.Machine.{Result, reading}
-use Rattle.machine.specs.Events.{eventsOf}
-use Rattle.machine.specs.Contract.{roomIn, Reads}
+use Rattle.machine.specs.Machine.{Result}
+use Rattle.machine.specs.Contract.{Reads}
 use Rattle.machine.specs.declared.Answer as reader-answer
-use Rattle.classes.specs.Tables.{nameRowsIn}
-use Rattle.classes.specs.Classes.{nameClasses}
-use Rattle.meaning.specs.Meaning.{same, sameMeaning, meanings}
+use Rattle.meaning.specs.Meaning.{sameMeaning, meanings}
 use Rattle.meaning.specs.Pairs.{pairsOf, flatPairs}
 use Rattle.twins.specs.Parts.{partsOf}
-use Rattle.render.specs.Render.{eventsIn, Renderable, Rendered}
+use Rattle.render.specs.Render.{Renderable, Rendered}
 use Rattle.lister_contract.specs.declared.Answer.{Answer}
-use Rattle.lister_contract.specs.Contract.{answer, meaningsIn, pairsIn, judged, answerOf, listOf, Lists}
-use Rattle.lister_contract.specs.Tables.{Filled, tableMeanings, tablePairs, TablesListed}
+use Rattle.lister_contract.specs.Contract.{answer, meaningsIn, pairsIn, pairsJudged, listAnswer, listOf, Lists}
+use Rattle.lister_contract.specs.Tables.{tableMeanings, tablePairs, TablesListed}
 use Rattle.lister_contract.proofs.Coded.{same-pairs}
-use Rattle.filled.proofs.Rooms.{stops-inside}
-use Rattle.filled.proofs.Filled.{number-read, place-read, names-long, qnames-long, events-long, same-rows, few, qfew, efew, names-fit, qnames-fit, events-fit}
+use Rattle.filled.proofs.Filled.{number-read, place-read, same-events}
 
 -- a list with room for so many pairs has room for their numbers
 pub numbers-fit : (size pairs n : ℕ) → pairs ≡ n → pairs ≤ size / 2 → 2 * n ≤ size
 numbers-fit size pairs n e l = omega arith
-
--- ---- the tables after reading
-
--- the events of the tables are reading's
-pub same-events : {r : Result} {names qnames events names′ qnames′ events′ : List ℕ} {a : reader-answer.Answer} → Reads r names qnames events names′ qnames′ events′ a → (doc : List ℕ)
-    → eventsIn doc names′ qnames′ events′ (a .names) (a .qnames) (a .events) ≡ eventsOf doc (r .final)
-unfolding eventsIn
-same-events h doc = same-rows h doc
-
--- an accepted reading fills the tables
-module _ (doc : List ℕ) {names qnames events names′ qnames′ events′ : List ℕ} {a : reader-answer.Answer}
-    (h : Reads (reading doc (roomIn (length names) (length qnames) (length events))) names qnames events names′ qnames′ events′ a)
-    (short : length doc ≤ 65536) where
-  pub filled : Filled doc names′ qnames′ events′ a
-  filled =
-      record {
-        short = short;
-        few = few doc h short;
-        long = names-long h;
-        qfew = qfew doc h short;
-        qlong = qnames-long h;
-        efew = efew doc h short;
-        elong = events-long h;
-        names-fit = names-fit doc h short;
-        qnames-fit = qnames-fit doc h short;
-        last = reading doc (roomIn (length names) (length qnames) (length events)) .final .at;
-        inside = stops-inside doc (roomIn (length names) (length qnames) (length events));
-        events-fit = events-fit doc h short;
-      }
-
--- with the classes that `name_classes` writes, the tables can be rendered
-pub renderable : {doc names qnames events : List ℕ} {a : reader-answer.Answer} → Filled doc names qnames events a
-    → {classes : List ℕ} → length classes ≡ 1024 → Front (nameClasses doc (nameRowsIn (a .names) names)) classes
-    → Renderable doc names qnames events classes (a .names) (a .qnames) (a .events)
-renderable f l c =
-    record {
-      short = f .short;
-      few = f .few;
-      long = f .long;
-      qfew = f .qfew;
-      qlong = f .qlong;
-      efew = f .efew;
-      elong = f .elong;
-      names-fit = f .names-fit;
-      qnames-fit = f .qnames-fit;
-      last = f .last;
-      inside = f .inside;
-      events-fit = f .events-fit;
-      classes-long = l;
-      classes-are = c;
-    }
 
 -- ---- the ways out of listing from the tables
 
@@ -103,7 +48,7 @@ module _ (a : reader-answer.Answer) {doc names qnames events classes syms starts
   -- 11: the pairs in full for its count, and the list is not touched
   pub too-small : {list : List ℕ} → length list / 2 < pairs → {c : Answer} → c ≡ answer noPairs pairs n pairs
       → TablesListed doc names qnames events a list list c
-  unfolding judged
+  unfolding pairsJudged
   too-small {list} l e =
       let m : length list / 2 < length (tablePairs doc names qnames events a) = omega (arith, count-is) in
       record { answer-is = e ∙ rw (records-are, count-is) (simp (tests, m)); list-is = simp (tests, m) }
@@ -111,7 +56,7 @@ module _ (a : reader-answer.Answer) {doc names qnames events classes syms starts
   -- 0: the list holds the pairs
   pub written : {list list′ : List ℕ} → pairs ≤ length list / 2 → list′ ≡ overlay (flatPairs (pairsOf same (partsOf syms starts n))) list
       → {c : Answer} → c ≡ answer accepted (a .place) n pairs → TablesListed doc names qnames events a list list′ c
-  unfolding judged
+  unfolding pairsJudged
   written {list} l w e =
       let m : length (tablePairs doc names qnames events a) ≤ length list / 2 = omega (arith, count-is) in
       record { answer-is = e ∙ rw (records-are, count-is) (simp (tests, m)); list-is = w ∙ rw pairs-are (simp (tests, m)) }
@@ -123,7 +68,7 @@ module _ {doc : List ℕ} {r : Result} {names qnames events names′ qnames′ e
   -- 1 to 9: reading's answer, and the list is not touched
   pub refused : {list : List ℕ} → (a .number ≡ 0 → ⊥) → {b : Answer} → b ≡ answer (a .number) (a .place) 0 0
       → Lists doc r names qnames events list names′ qnames′ events′ list b
-  unfolding answerOf listOf
+  unfolding listAnswer listOf
   refused n e =
       let i : r .number ≡ 0 → ⊥ = λ z. n (number-read h ∙ z) in
       record {
@@ -150,7 +95,7 @@ module _ (doc : List ℕ) {r : Result} {names qnames events names′ qnames′ e
 
   pub listed : {list list′ : List ℕ} {c : Answer} → TablesListed doc names′ qnames′ events′ a list list′ c
       → Lists doc r names qnames events list names′ qnames′ events′ list′ c
-  unfolding judged answerOf listOf
+  unfolding pairsJudged listAnswer listOf
   listed {list} t =
       let i = number-is in
       record {

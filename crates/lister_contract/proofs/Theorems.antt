@@ -11,7 +11,9 @@ use lib.ListN.{length, getD, getElem?, take, drop}
 use lib.Seq.{take-at}
 use borrow.Author.Tests.{eqb-true, ltb-true, ltb-false, le-ltb}
 use Rattle.sequences.specs.Lists.{overlay}
+use Rattle.sequences.specs.Members.{In, here, there}
 use Rattle.sequences.proofs.Tests.{tests}
+use Rattle.sequences.proofs.Members.{in-first}
 use Rattle.number.specs.Number.{front, numberAt}
 use Rattle.token.specs.Answers.{accepted, noPairs}
 use Rattle.token.specs.Tokens.{classOf, shapeOf}
@@ -27,17 +29,16 @@ use Rattle.machine.specs.Events.{nameText, eventOf, eventsOf}
 use Rattle.plan.specs.Text.{kindOf, shown, textOf}
 use Rattle.grammar.specs.Points.{Rows}
 use Rattle.grammar.specs.Grammar.{Derives}
-use Rattle.grammar.specs.Accepts.{eventsIn}
+use Rattle.grammar.specs.Accepts.{eventsDerived}
 use Rattle.grammar.proofs.Exact.{derived-accepts, events-agree}
 use Rattle.meaning.specs.Meaning.{declares, namedSymbols, plainSymbols, depthAfter, pieces, meanings, sameSymbol, sameMeaning}
-use Rattle.meaning.specs.Pairs.{Pair, pair, equalTo, pairsFrom, pairsOf, flatPairs, In, here, there, Ascending, Once}
+use Rattle.meaning.specs.Pairs.{Pair, pair, equalTo, pairsFrom, pairsOf, flatPairs, Ascending, Once}
 use Rattle.meaning.specs.Recut.{Recut}
-use Rattle.meaning.proofs.Members.{in-first}
 use Rattle.meaning.proofs.Same.{same-meaning}
 use Rattle.meaning.proofs.Exact.{exact, ordered, once}
 use Rattle.meaning.proofs.Recut.{recut-meanings}
 use Rattle.lister_contract.specs.declared.Answer.{Answer}
-use Rattle.lister_contract.specs.Contract.{answer, meaningsIn, pairsIn, pairRoom, judged, answerOf, listOf, Lists}
+use Rattle.lister_contract.specs.Contract.{answer, meaningsIn, pairsIn, pairRoom, pairsJudged, listAnswer, listOf, Lists}
 
 -- ---- the numbers of a list
 
@@ -81,20 +82,20 @@ below m n = go (ltb m n) refl
 -- ---- one document
 
 -- 0 means that reading has accepted the document and that the room holds the pairs
-judged-number : (place records pairs room : ℕ) → judged place records pairs room .number ≡ 0 → pairs ≤ room
-unfolding judged
+judged-number : (place records pairs room : ℕ) → pairsJudged place records pairs room .number ≡ 0 → pairs ≤ room
+unfolding pairsJudged
 judged-number place records pairs room e = go (ltb room pairs) refl e
   where
     go : (t : Bool) → ltb room pairs ≡ t → cond t (answer noPairs pairs records pairs) (answer accepted place records pairs) .number ≡ 0 → pairs ≤ room
     go true h f = absurd (let q : ⊥ = omega arith in q)
     go false h f = ltb-false _ _ h
 
-pub accepted-both : (doc : List ℕ) (r : Result) (room : ℕ) → answerOf doc r room .number ≡ 0 → (r .number ≡ 0) × (length (pairsIn doc r) ≤ room)
-unfolding answerOf
+pub accepted-both : (doc : List ℕ) (r : Result) (room : ℕ) → listAnswer doc r room .number ≡ 0 → (r .number ≡ 0) × (length (pairsIn doc r) ≤ room)
+unfolding listAnswer
 accepted-both doc r room e = go (eqb (r .number) accepted) refl e
   where
     go : (t : Bool) → eqb (r .number) accepted ≡ t
-        → cond t (judged (r .place) (length (meaningsIn doc r)) (length (pairsIn doc r)) room) (answer (r .number) (r .place) 0 0) .number ≡ 0
+        → cond t (pairsJudged (r .place) (length (meaningsIn doc r)) (length (pairsIn doc r)) room) (answer (r .number) (r .place) 0 0) .number ≡ 0
         → (r .number ≡ 0) × (length (pairsIn doc r) ≤ room)
     go true h f = (eqb-true _ _ h, judged-number (r .place) (length (meaningsIn doc r)) (length (pairsIn doc r)) room f)
     go false h f = absurd (let i = rw f at h in let z : _≡_ {A = ℕ} 0 1 = cc in let q : ⊥ = omega arith in q)
@@ -112,19 +113,19 @@ module _ (doc : List ℕ) (r : Result) where
 
 -- the parts of the answer to an accepted document, for any room
 module _ (doc : List ℕ) (r : Result) (room : ℕ) (ok : r .number ≡ 0) where
-  answered : answerOf doc r room ≡ judged (r .place) (length (meaningsIn doc r)) (length (pairsIn doc r)) room
-  unfolding answerOf
+  answered : listAnswer doc r room ≡ pairsJudged (r .place) (length (meaningsIn doc r)) (length (pairsIn doc r)) room
+  unfolding listAnswer
   answered = rw ok
 
-  answer-small : room < length (pairsIn doc r) → answerOf doc r room ≡ answer noPairs (length (pairsIn doc r)) (length (meaningsIn doc r)) (length (pairsIn doc r))
-  unfolding judged
+  answer-small : room < length (pairsIn doc r) → listAnswer doc r room ≡ answer noPairs (length (pairsIn doc r)) (length (meaningsIn doc r)) (length (pairsIn doc r))
+  unfolding pairsJudged
   answer-small l = answered ∙ simp (tests, l)
 
-  answer-held : length (pairsIn doc r) ≤ room → answerOf doc r room ≡ answer accepted (r .place) (length (meaningsIn doc r)) (length (pairsIn doc r))
-  unfolding judged
+  answer-held : length (pairsIn doc r) ≤ room → listAnswer doc r room ≡ answer accepted (r .place) (length (meaningsIn doc r)) (length (pairsIn doc r))
+  unfolding pairsJudged
   answer-held l = answered ∙ simp (tests, l)
 
-  pub answer-counts : (answerOf doc r room .records ≡ length (meaningsIn doc r)) × (answerOf doc r room .pairs ≡ length (pairsIn doc r))
+  pub answer-counts : (listAnswer doc r room .records ≡ length (meaningsIn doc r)) × (listAnswer doc r room .pairs ≡ length (pairsIn doc r))
   answer-counts = ⊎-elim
       (λ (l : room < length (pairsIn doc r)). let e = answer-small l in (ap (λ (x : Answer). x .records) e, ap (λ (x : Answer). x .pairs) e))
       (λ (l : length (pairsIn doc r) ≤ room). let e = answer-held l in (ap (λ (x : Answer). x .records) e, ap (λ (x : Answer). x .pairs) e))
@@ -234,7 +235,7 @@ module _ {d e : List ℕ} {r s : Result} {n q v l n′ q′ v′ l′ m p w k m�
 
 module _ {doc : List ℕ} {room : Room} {version : ℕ} {rows : Rows} (g : Derives doc room version rows) where
   -- demand 3: a derived document is accepted, and its records and their meanings are those of the derivation's events
-  pub derived-meanings : (reading doc room .number ≡ 0) × (meaningsIn doc (reading doc room) ≡ meanings (eventsIn doc rows))
+  pub derived-meanings : (reading doc room .number ≡ 0) × (meaningsIn doc (reading doc room) ≡ meanings (eventsDerived doc rows))
   unfolding meaningsIn
   derived-meanings = (derived-accepts doc room g .number-is, ap meanings (events-agree doc room version rows g))
 
@@ -242,7 +243,7 @@ module _ {d e : List ℕ} {room more : Room} {version v : ℕ} {rows others : Ro
     (x : Lists d (reading d room) n q u l n′ q′ u′ l′ a) (y : Lists e (reading e more) m p w k m′ p′ w′ k′ b)
     (f : Derives d room version rows) (g : Derives e more v others) where
   -- demand 3: two derived documents with the same events, except for how texts are cut, have the same records, pairs and lists
-  pub recut-derived : Recut (eventsIn d rows) (eventsIn e others) → Alike l l′ k k′ a b
+  pub recut-derived : Recut (eventsDerived d rows) (eventsDerived e others) → Alike l l′ k k′ a b
   recut-derived c =
       same-meanings x y (derived-meanings f .0) (derived-meanings g .0)
       (derived-meanings f .1 ∙ recut-meanings c ∙ sym (derived-meanings g .1))
@@ -261,20 +262,20 @@ document =
 
 -- a header alone has no record; the document has one pair, which a list with room holds and a list without does not
 pub listing-case :
-    (answerOf H (reading H full) 0 ≡ answer accepted 5 0 0) × (answerOf document (reading document full) 0 ≡ answer noPairs 1 3 1)
-    × (answerOf document (reading document full) 1 ≡ answer accepted 49 3 1)
+    (listAnswer H (reading H full) 0 ≡ answer accepted 5 0 0) × (listAnswer document (reading document full) 0 ≡ answer noPairs 1 3 1)
+    × (listAnswer document (reading document full) 1 ≡ answer accepted 49 3 1)
     × (listOf document (reading document full) (7 ∷ []) ≡ 7 ∷ []) × (listOf document (reading document full) (7 ∷ 8 ∷ 9 ∷ []) ≡ 0 ∷ 2 ∷ 9 ∷ [])
-unfolding front numberAt classOf shapeOf lawful needed textAt extentAt fieldAt nameAt qnameAt headerAt eventDue textStep nameStep qnameStep extensionStep piStep elementStep attributeStep valueStep nestStep classStep tokenStep declaredStep endStep stepAt run reading nameText eventOf eventsOf kindOf shown textOf declares namedSymbols plainSymbols depthAfter pieces meanings sameSymbol equalTo pairsFrom pairsOf meaningsIn pairsIn judged answerOf listOf
+unfolding front numberAt classOf shapeOf lawful needed textAt extentAt fieldAt nameAt qnameAt headerAt eventDue textStep nameStep qnameStep extensionStep piStep elementStep attributeStep valueStep nestStep classStep tokenStep declaredStep endStep stepAt run reading nameText eventOf eventsOf kindOf shown textOf declares namedSymbols plainSymbols depthAfter pieces meanings sameSymbol equalTo pairsFrom pairsOf meaningsIn pairsIn pairsJudged listAnswer listOf
 listing-case = (refl, refl, refl, refl, refl)
 
 -- the records of an accepted document do not depend on the room for pairs
-any-room : (doc : List ℕ) (r : Result) (room more : ℕ) → answerOf doc r room .number ≡ 0 → answerOf doc r more .records ≡ answerOf doc r room .records
+any-room : (doc : List ℕ) (r : Result) (room more : ℕ) → listAnswer doc r room .number ≡ 0 → listAnswer doc r more .records ≡ listAnswer doc r room .records
 any-room doc r room more e =
     let ok = accepted-both doc r room e .0 in
     answer-counts doc r more ok .0 ∙ sym (answer-counts doc r room ok .0)
 
 -- demand 3: a lister with one answer for all documents breaks the contract, whatever its room for pairs
-pub not-constant : (a : Answer) (room : ℕ) → ((doc : List ℕ) → answerOf doc (reading doc full) room ≡ a) → ⊥
+pub not-constant : (a : Answer) (room : ℕ) → ((doc : List ℕ) → listAnswer doc (reading doc full) room ≡ a) → ⊥
 not-constant a room f =
     let c = listing-case in
     let x = any-room H (reading H full) 0 room (ap (λ (b : Answer). b .number) (c .0)) ∙ ap (λ (b : Answer). b .records) (c .0) in

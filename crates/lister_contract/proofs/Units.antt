@@ -9,13 +9,13 @@ use lib.Dec.{ltb, leb, eqb}
 use lib.ListN.{length, getD, drop}
 use borrow.Author.Tests.{ltb-true}
 use Rattle.sequences.specs.Lists.{Bytes, little, unitsOf}
+use Rattle.sequences.specs.Members.{Every, none, first}
 use Rattle.sequences.proofs.Tests.{cond-if}
 use Rattle.sequences.proofs.Units.{bytes-first, bytes-rest}
+use Rattle.sequences.proofs.Members.{every-append}
 use Rattle.numeral.specs.Numeral.{lastDigits, unlessZero, digitsIn, digits, fraction, sign, numeral, truth}
 use Rattle.hexadecimal.specs.Hexadecimal.{hexDigit, hex}
 use Rattle.base64.specs.Base64.{letter, base64}
-use Rattle.machine.specs.Facts.{Every, none, first}
-use Rattle.machine.proofs.Facts.{every-append}
 use Rattle.plan.specs.Text.{kindOf, signedText, shown, textOf}
 use Rattle.plan.specs.declared.Kind.{Kind}
 use Rattle.plan.specs.declared.Kind.the-variants.{Unshown, Same, Signed, Unsigned, Truth, Decimal, Hex, Base64}

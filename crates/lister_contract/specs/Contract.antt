@@ -30,20 +30,20 @@ abbrev pub pairRoom : List ℕ → ℕ
 pairRoom list = length list / 2
 
 -- an accepted document: 11 with the pairs in full for its count where the list is too small, else 0 with reading's place
-unfoldable pub judged : ℕ → ℕ → ℕ → ℕ → Answer
-judged place records pairs room = cond (ltb room pairs) (answer noPairs pairs records pairs) (answer accepted place records pairs)
+unfoldable pub pairsJudged : ℕ → ℕ → ℕ → ℕ → Answer
+pairsJudged place records pairs room = cond (ltb room pairs) (answer noPairs pairs records pairs) (answer accepted place records pairs)
 
 -- 1 to 9 are reading's
-unfoldable pub answerOf : List ℕ → Result → ℕ → Answer
-answerOf doc r room =
-    cond (eqb (r .number) accepted) (judged (r .place) (length (meaningsIn doc r)) (length (pairsIn doc r)) room) (answer (r .number) (r .place) 0 0)
+unfoldable pub listAnswer : List ℕ → Result → ℕ → Answer
+listAnswer doc r room =
+    cond (eqb (r .number) accepted) (pairsJudged (r .place) (length (meaningsIn doc r)) (length (pairsIn doc r)) room) (answer (r .number) (r .place) 0 0)
 
 -- the list holds the pairs, laid over what stood there; a refused list is not touched
 unfoldable pub listOf : List ℕ → Result → List ℕ → List ℕ
-listOf doc r list = cond (eqb (answerOf doc r (pairRoom list) .number) accepted) (overlay (flatPairs (pairsIn doc r)) list) list
+listOf doc r list = cond (eqb (listAnswer doc r (pairRoom list) .number) accepted) (overlay (flatPairs (pairsIn doc r)) list) list
 
 pub record Lists (doc : List ℕ) (r : Result) (names qnames events list names′ qnames′ events′ list′ : List ℕ) (a : Answer) : Type 0 where
-  pub answer-is : a ≡ answerOf doc r (pairRoom list)
+  pub answer-is : a ≡ listAnswer doc r (pairRoom list)
   pub names-are : names′ ≡ overlay (flatNames (r .final .names)) names
   pub qnames-are : qnames′ ≡ overlay (flatQnames (r .final .qnames)) qnames
   pub events-are : events′ ≡ overlay (flatEvents (r .final .events)) events

@@ -1,34 +1,17 @@
--- Listing from tables that a reading has filled: what they hold, and what is then listed.
-use Prim.Native.Nat.{ℕ, _*_, _≤_}
+-- Serves the code. Listing from tables that a reading has filled: what is then listed.
+use Prim.Native.Nat.{ℕ}
 use mathlib.Core.Path.{_≡_}
 use mathlib.Core.Bool.{cond}
 use mathlib.Core.List.{List}
 use lib.Dec.{ltb}
 use lib.ListN.{length}
 use Rattle.sequences.specs.Lists.{overlay}
-use Rattle.machine.specs.Facts.{Every, NameFits, QnameFits, Placed}
 use Rattle.machine.specs.declared.Answer as reader-answer
-use Rattle.classes.specs.Tables.{nameRowsIn, qnameRowsIn, eventRowsIn}
+use Rattle.machine.specs.Tables.{eventsIn}
 use Rattle.meaning.specs.Meaning.{Symbol, meanings, sameMeaning}
 use Rattle.meaning.specs.Pairs.{Pair, pairsOf, flatPairs}
-use Rattle.render.specs.Render.{eventsIn}
 use Rattle.lister_contract.specs.declared.Answer.{Answer}
-use Rattle.lister_contract.specs.Contract.{pairRoom, judged}
-
--- the tables hold the rows that an accepted reading has answered with
-pub record Filled (doc names qnames events : List ℕ) (a : reader-answer.Answer) : Type 0 where
-  pub short : length doc ≤ 65536
-  pub few : a .names ≤ 1024
-  pub long : 2 * a .names ≤ length names
-  pub qfew : a .qnames ≤ 1024
-  pub qlong : 3 * a .qnames ≤ length qnames
-  pub efew : a .events ≤ 4096
-  pub elong : 4 * a .events ≤ length events
-  pub names-fit : Every (NameFits (length doc)) (nameRowsIn (a .names) names)
-  pub qnames-fit : Every (QnameFits (a .names)) (qnameRowsIn (a .qnames) qnames)
-  pub last : ℕ
-  pub inside : last ≤ length doc
-  pub events-fit : Placed doc (a .names) (a .qnames) (eventRowsIn (a .events) events) last
+use Rattle.lister_contract.specs.Contract.{pairRoom, pairsJudged}
 
 -- the meanings of the records of the tables, and the pairs of equal ones
 unfoldable pub tableMeanings : List ℕ → List ℕ → List ℕ → List ℕ → reader-answer.Answer → List (List Symbol)
@@ -39,5 +22,5 @@ tablePairs doc names qnames events a = pairsOf sameMeaning (tableMeanings doc na
 
 -- 11 and a list that is not touched, or 0 and the pairs laid over the list
 pub record TablesListed (doc names qnames events : List ℕ) (a : reader-answer.Answer) (list list′ : List ℕ) (r : Answer) : Type 0 where
-  pub answer-is : r ≡ judged (a .place) (length (tableMeanings doc names qnames events a)) (length (tablePairs doc names qnames events a)) (pairRoom list)
+  pub answer-is : r ≡ pairsJudged (a .place) (length (tableMeanings doc names qnames events a)) (length (tablePairs doc names qnames events a)) (pairRoom list)
   pub list-is : list′ ≡ cond (ltb (pairRoom list) (length (tablePairs doc names qnames events a))) list (overlay (flatPairs (tablePairs doc names qnames events a)) list)

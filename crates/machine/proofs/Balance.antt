@@ -12,7 +12,7 @@ use Rattle.sequences.proofs.Tests.{and-left, and-right}
 use Rattle.token.specs.Tokens.{classOf}
 use Rattle.token.specs.declared.Class.{Class}
 use Rattle.token.specs.declared.Class.the-variants as class
-use Rattle.modes.specs.Modes.{content, listing, declares, is, allowed, afterMetadata, afterValue}
+use Rattle.modes.specs.Modes.{content, listing, inDeclaration, is, allowed, afterMetadata, afterValue}
 use Rattle.modes.specs.declared.Mode.{Mode}
 use Rattle.modes.specs.declared.Mode.the-variants.{Tag, First, Prolog, AfterDocType, AfterSystem, AfterPublic, Cdata}
 use Rattle.modes.specs.declared.View.{View}
@@ -20,7 +20,7 @@ use Rattle.scan.specs.declared.Room.{Room}
 use Rattle.scan.specs.declared.Step.{Step}
 use Rattle.machine.specs.Rows.{EventRow}
 use Rattle.machine.specs.Machine.{Scope, State, view, elementsIn, returned, apply, reading}
-use Rattle.machine.specs.Balance.{Opened, opened, closed, total, takenBy, taken, onto, check, AtMost}
+use Rattle.machine.specs.Balance.{Opened, opened, nothingOpen, total, takenBy, taken, andThen, check, AtMost}
 use Rattle.machine.proofs.Goes.{Goes}
 use Rattle.machine.proofs.Trace.{kept}
 use Rattle.machine.proofs.Readings.{by-reading, Ends, accepted-ends}
@@ -71,15 +71,15 @@ value-taken : {c : Class} (v : View) (ds : List ℕ) → ValueClass c → allowe
 value-taken v ds found.any-version a = rw (value-list (v .mode), value-section (v .mode) a)
 value-taken v ds found.version-2 a = rw (value-list (v .mode), value-section (v .mode) (and-left (content (v .mode) || listing (v .mode)) _ a))
 
-module _ (doc : List ℕ) (room : Room) (s : State) (i : check closed (s .events) ≡ some (openIn s)) where
+module _ (doc : List ℕ) (room : Room) (s : State) (i : check nothingOpen (s .events) ≡ some (openIn s)) where
   -- metadata opens and closes nothing
-  quiet : check closed (s .events) ≡ some (opened (s .here .elements ∷ elementsOf (s .outer)) (listing (afterMetadata (s .mode))) (is (afterMetadata (s .mode)) Cdata))
+  quiet : check nothingOpen (s .events) ≡ some (opened (s .here .elements ∷ elementsOf (s .outer)) (listing (afterMetadata (s .mode))) (is (afterMetadata (s .mode)) Cdata))
   quiet = rw (metadata-list (s .mode), metadata-section (s .mode)) i
 
-  by-event : (e : EventRow) {b : Opened} → taken (e .token) (openIn s) ≡ some b → check closed (s .events ++ (e ∷ [])) ≡ some b
-  by-event e t = check-append (s .events) (e ∷ []) closed ∙ ap (onto (λ c. check c (e ∷ []))) i ∙ ap (onto (λ c. some c)) t
+  by-event : (e : EventRow) {b : Opened} → taken (e .token) (openIn s) ≡ some b → check nothingOpen (s .events ++ (e ∷ [])) ≡ some b
+  by-event e t = check-append (s .events) (e ∷ []) nothingOpen ∙ ap (andThen (λ c. check c (e ∷ []))) i ∙ ap (andThen (λ c. some c)) t
 
-  leaving : (os : List Scope) (next : ℕ) → s .outer ≡ os → Stands doc (view s) class.EndNest → check closed (returned s os next .events) ≡ some (openIn (returned s os next))
+  leaving : (os : List Scope) (next : ℕ) → s .outer ≡ os → Stands doc (view s) class.EndNest → check nothingOpen (returned s os next .events) ≡ some (openIn (returned s os next))
   unfolding classOf
   leaving [] next e t =
       let d : 0 < length (s .outer) = ltb-true _ _ (and-right (content (s .mode)) _ (and-left (content (s .mode) && ltb 0 (length (s .outer))) _ (t .may))) in
@@ -91,7 +91,7 @@ module _ (doc : List ℕ) (room : Room) (s : State) (i : check closed (s .events
       let l : 1 < suc (suc (length (elementsOf os))) = omega arith in
       by-event _ (rw (e, content-list _ c, content-section _ c, lt-ltb _ _ l, z))
 
-  balance-step : {x : Step} → Goes x → Found doc (view s) room x → check closed (apply s x .events) ≡ some (openIn (apply s x))
+  balance-step : {x : Step} → Goes x → Found doc (view s) room x → check nothingOpen (apply s x .events) ≡ some (openIn (apply s x))
   unfolding classOf
   balance-step g (found.stop n) = absurd g
   balance-step g (found.ended l d e c) = absurd g
@@ -101,7 +101,7 @@ module _ (doc : List ℕ) (room : Room) (s : State) (i : check closed (s .events
   balance-step g (found.flush t) = quiet
   balance-step g (found.texted t l e r) = by-event _ (rw (t .class-is) (text-taken (view s) _ l (t .may)))
   balance-step g (found.encoding a m b e r) = by-event _ (rw (b, m))
-  balance-step g (found.standalone a d b r) = by-event _ (rw (no-list declares refl _ d, no-section declares refl _ d))
+  balance-step g (found.standalone a d b r) = by-event _ (rw (no-list inDeclaration refl _ d, no-section inDeclaration refl _ d))
   balance-step g (found.end-attributes t r) = let m = t .may in by-event _ (rw (t .class-is, m, no-section listing refl _ m))
   balance-step g (found.cdata-end t r) = let m = t .may in by-event _ (rw (t .class-is, m, no-list (λ k. is k Cdata) refl _ m))
   balance-step g (found.value t c e r) = by-event _ (rw (t .class-is) (value-taken (view s) _ c (t .may)))
@@ -130,26 +130,26 @@ module _ (doc : List ℕ) (room : Room) (s : State) (i : check closed (s .events
 -- ---- a reading
 
 -- the checker takes the events of any reading, and reaches what is open in its last state
-pub reading-balance : (doc : List ℕ) (room : Room) → check closed (reading doc room .final .events) ≡ some (openIn (reading doc room .final))
+pub reading-balance : (doc : List ℕ) (room : Room) → check nothingOpen (reading doc room .final .events) ≡ some (openIn (reading doc room .final))
 reading-balance doc room =
-    by-reading doc room (λ r. check closed (r .final .events) ≡ some (openIn (r .final))) (λ number place l. refl)
-    (λ version next w. kept doc room (λ s. check closed (s .events) ≡ some (openIn s))
+    by-reading doc room (λ r. check nothingOpen (r .final .events) ≡ some (openIn (r .final))) (λ number place l. refl)
+    (λ version next w. kept doc room (λ s. check nothingOpen (s .events) ≡ some (openIn s))
     (λ s x i g q. balance-step doc room s i g (found-step doc (view s) room q)) (w .trace) refl)
 
 none-around : (os : List Scope) → length os ≡ 0 → elementsOf os ≡ []
 none-around [] e = refl
 none-around (o ∷ os) e = absurd (let q : ⊥ = omega arith in q)
 
-ends-closed : {size : ℕ} (s : State) → Ends size (view s) → openIn s ≡ closed
+ends-closed : {size : ℕ} (s : State) → Ends size (view s) → openIn s ≡ nothingOpen
 ends-closed s h =
     rw (h .elements-none, none-around (s .outer) (h .depth-none), content-list (s .mode) (h .at-root), content-section (s .mode) (h .at-root))
 
 -- all that opens in an accepted document closes, in it and in each of its nested documents
-pub balanced : (doc : List ℕ) (room : Room) → reading doc room .number ≡ 0 → check closed (reading doc room .final .events) ≡ some closed
+pub balanced : (doc : List ℕ) (room : Room) → reading doc room .number ≡ 0 → check nothingOpen (reading doc room .final .events) ≡ some nothingOpen
 balanced doc room =
-    by-reading doc room (λ r. r .number ≡ 0 → check closed (r .final .events) ≡ some closed) (λ number place l e. refl)
+    by-reading doc room (λ r. r .number ≡ 0 → check nothingOpen (r .final .events) ≡ some nothingOpen) (λ number place l e. refl)
     (λ version next w e. reading-balance doc room ∙ ap some (ends-closed (reading doc room .final) (accepted-ends w e)))
 
 -- after each event of a reading, accepted or refused, at most 64 elements are open in at most 8 nested documents
 pub at-most : (doc : List ℕ) (room : Room) (front back : List EventRow) → reading doc room .final .events ≡ front ++ back → AtMost front
-at-most doc room front back e = taken-at-most (front-taken front back closed (sym (ap (check closed) e) ∙ reading-balance doc room))
+at-most doc room front back e = taken-at-most (front-taken front back nothingOpen (sym (ap (check nothingOpen) e) ∙ reading-balance doc room))

@@ -14,16 +14,16 @@ use Rattle.token.specs.Tokens.{classOf}
 use Rattle.token.specs.declared.Class.{Class}
 use Rattle.token.specs.declared.Class.the-variants as class
 use Rattle.machine.specs.Rows.{EventRow}
-use Rattle.machine.specs.Balance.{Opened, closed, total, innermost, raised, lowered, around, outside, only, takenBy, taken, onto, check, AtMost}
+use Rattle.machine.specs.Balance.{Opened, nothingOpen, total, innermost, raised, lowered, around, outside, only, takenBy, taken, andThen, check, AtMost}
 
 -- ---- the checker's run
 
-pub check-append : (es fs : List EventRow) (b : Opened) → check b (es ++ fs) ≡ onto (λ c. check c fs) (check b es)
+pub check-append : (es fs : List EventRow) (b : Opened) → check b (es ++ fs) ≡ andThen (λ c. check c fs) (check b es)
 check-append [] fs b = refl
 check-append (e ∷ es) fs b = go (λ c. check-append es fs c) (taken (e .token) b)
   where
-    go : ((c : Opened) → check c (es ++ fs) ≡ onto (λ d. check d fs) (check c es)) → (o : Option Opened)
-        → onto (λ c. check c (es ++ fs)) o ≡ onto (λ c. check c fs) (onto (λ c. check c es) o)
+    go : ((c : Opened) → check c (es ++ fs) ≡ andThen (λ d. check d fs) (check c es)) → (o : Option Opened)
+        → andThen (λ c. check c (es ++ fs)) o ≡ andThen (λ c. check c fs) (andThen (λ c. check c es) o)
     go k none = refl
     go k (some c) = k c
 
@@ -35,7 +35,7 @@ pub record Taken (b : Opened) (es : List EventRow) : Type 0 where
 pub front-taken : (front back : List EventRow) (b : Opened) {c : Opened} → check b (front ++ back) ≡ some c → Taken b front
 front-taken front back b {c} e = go (check b front) refl (sym (check-append front back b) ∙ e)
   where
-    go : (o : Option Opened) → check b front ≡ o → onto (λ d. check d back) o ≡ some c → Taken b front
+    go : (o : Option Opened) → check b front ≡ o → andThen (λ d. check d back) o ≡ some c → Taken b front
     go none r e = absurd (let z : _≡_ {A = ℕ} 0 1 = cc in let q : ⊥ = omega arith in q)
     go (some d) r e = record { after = d; reached = r }
 
@@ -95,12 +95,12 @@ check-bounds : (es : List EventRow) (b : Opened) → Bounds (some b) → Bounds 
 check-bounds [] b h = h
 check-bounds (e ∷ es) b h = go (λ c k. check-bounds es c k) (taken (e .token) b) (taken-bounds (classOf (e .token)) b h)
   where
-    go : ((c : Opened) → Bounds (some c) → Bounds (check c es)) → (o : Option Opened) → Bounds o → Bounds (onto (λ c. check c es) o)
+    go : ((c : Opened) → Bounds (some c) → Bounds (check c es)) → (o : Option Opened) → Bounds o → Bounds (andThen (λ c. check c es) o)
     go f none k = tt
     go f (some c) k = f c k
 
 -- after any events that the checker takes from the start on
-pub taken-at-most : {es : List EventRow} → Taken closed es → AtMost es
+pub taken-at-most : {es : List EventRow} → Taken nothingOpen es → AtMost es
 taken-at-most {es} t =
-    let b = subst Bounds (t .reached) (check-bounds es closed (let q : (0 ≤ 64) × (1 ≤ 9) = omega arith in q)) in
+    let b = subst Bounds (t .reached) (check-bounds es nothingOpen (let q : (0 ≤ 64) × (1 ≤ 9) = omega arith in q)) in
     record { after = t .after; reached = t .reached; elements = b .0; nested = b .1 }

@@ -19,7 +19,7 @@ use Rattle.number.specs.declared.Number.{Number}
 use Rattle.number.specs.declared.Number.the-variants as number
 use Rattle.token.specs.declared.QnameNumber.{QnameNumber}
 use Rattle.rules.specs.Rules.{decimalSize, lawful}
-use Rattle.value.specs.Fields.{needed, textPayload, textAt, blobAfter, decimalAfter, timeField, qnameAfter, extentAt, ruled, fieldAt}
+use Rattle.value.specs.Fields.{needed, textPayload, textAt, blobAfter, decimalAfter, timeField, qnamePayload, extentAt, ruled, fieldAt}
 use Rattle.value.specs.declared.Text as declared
 use Rattle.value.specs.declared.Text.the-variants as text
 use Rattle.value.specs.declared.Field.{Field}
@@ -133,7 +133,7 @@ module _ (shape : Shape) (doc : List ℕ) where
   ruled-refers at (Reference number next) h = h
   ruled-refers at (Refused number place) h = tt
 
-qname-refers : (n : Number) → Refers Qname (qnameAfter n)
+qname-refers : (n : Number) → Refers Qname (qnamePayload n)
 qname-refers (number.Is value next) = refl
 qname-refers (number.Refused number place) = tt
 

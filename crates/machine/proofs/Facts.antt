@@ -8,16 +8,17 @@ use native.Mathlib.Omega.{arith}
 use lib.Dec.{eqb}
 use lib.ListN.{length, getD, length-append}
 use borrow.Author.Tests.{eqb-true}
+use Rattle.sequences.specs.Members.{Every, none, first}
+use Rattle.sequences.proofs.Members.{every-append, every-weaken, every-getD}
 use Rattle.token.specs.Tokens.{classOf, shapeOf}
 use Rattle.token.specs.declared.Class.{Class}
 use Rattle.token.specs.declared.Class.the-variants as class
 use Rattle.token.specs.declared.QnameNumber.{QnameNumber}
 use Rattle.value.specs.Fields.{fieldAt}
 use Rattle.value.specs.declared.Field.the-variants as field
-use Rattle.fields.specs.References.{NameWithin}
+use Rattle.fields.specs.Bounds.{NameWithin, HeaderWithin}
 use Rattle.fields.specs.declared.Name.{Name}
 use Rattle.fields.proofs.References.{name-within}
-use Rattle.fields.specs.Headers.{HeaderWithin}
 use Rattle.fields.specs.declared.Header.{Header}
 use Rattle.fields.proofs.Headers.{header-within}
 use Rattle.scan.specs.Bounds.{Fine}
@@ -28,7 +29,7 @@ use Rattle.scan.proofs.Fine.{found-fine}
 use Rattle.machine.specs.Rows.{QnameRow, EventRow, nameRow, event}
 use Rattle.machine.specs.Machine.{Scope, scope, State, state, view, rowOf, onward, returned, apply, started, reading}
 use Rattle.machine.specs.Facts as facts
-use Rattle.machine.specs.Facts.{Every, oneOf, textTokens, qnameTokens, QnameFits, EventFits, Placed, RowsFit}
+use Rattle.machine.specs.Facts.{oneOf, textTokens, qnameTokens, QnameFits, EventFits, Placed, RowsFit}
 use Rattle.machine.proofs.Goes.{Goes}
 use Rattle.machine.proofs.Trace.{kept}
 use Rattle.machine.proofs.Codes.{coded, reference-shape}
@@ -36,25 +37,10 @@ use Rattle.machine.proofs.Readings.{by-reading}
 use Rattle.machine.proofs.Found as found
 use Rattle.machine.proofs.Found.{TextLeads, ValueClass, Found, found-step}
 
--- ---- lists of which each element has a property
-
-pub every-append : {A : Type 0} {P : A → Type 0} {l m : List A} → Every P l → Every P m → Every P (l ++ m)
-every-append facts.none k = k
-every-append (facts.first p h) k = facts.first p (every-append h k)
-
-pub every-weaken : {A : Type 0} {P Q : A → Type 0} {l : List A} → ((a : A) → P a → Q a) → Every P l → Every Q l
-every-weaken f facts.none = facts.none
-every-weaken f (facts.first {a = a} p h) = facts.first (f a p) (every-weaken f h)
-
-pub every-at : {P : ℕ → Type 0} {l : List ℕ} → Every P l → (k : ℕ) → k < length l → P (getD l k 0)
-every-at facts.none k i = absurd (let q : ⊥ = omega arith in q)
-every-at (facts.first p h) zero i = p
-every-at (facts.first p h) (suc k) i = every-at h k (omega arith)
-
 -- what holds for each number of a list holds for one of them
 pub every-one-of : (ks : List ℕ) (P : ℕ → Type 0) (x : ℕ) → Every P ks → oneOf ks x ≡ true → P x
 every-one-of [] P x h e = absurd (let z : _≡_ {A = ℕ} 0 1 = cc in let q : ⊥ = omega arith in q)
-every-one-of (k ∷ ks) P x (facts.first p h) e = go (eqb x k) refl e (λ i. every-one-of ks P x h i)
+every-one-of (k ∷ ks) P x (first p h) e = go (eqb x k) refl e (λ i. every-one-of ks P x h i)
   where
     go : (b : Bool) → eqb x k ≡ b → (b || oneOf ks x) ≡ true → (oneOf ks x ≡ true → P x) → P x
     go true i e f = rw (eqb-true x k i) p
@@ -99,11 +85,11 @@ known-grows k l h = record { names-are = rows-grow k (h .names-are); qnames-are 
 -- the row of a number that is known is a row, or 0 for number 0
 pub row-in : {n : ℕ} {rows : List ℕ} → Every (IsRow n) rows → (number : ℕ) → number ≤ length rows → rowOf rows number ≤ n
 row-in h zero l = omega arith
-row-in h (suc k) l = every-at h k (omega arith) .1
+row-in h (suc k) l = every-getD h k (omega arith) .1
 
 pub row-from : {n : ℕ} {rows : List ℕ} → Every (IsRow n) rows → (number : ℕ) → 1 ≤ number → number ≤ length rows → 1 ≤ rowOf rows number
 row-from h zero k l = absurd (let q : ⊥ = omega arith in q)
-row-from h (suc k) i l = every-at h k (omega arith) .0
+row-from h (suc k) i l = every-getD h k (omega arith) .0
 
 -- what every step keeps
 pub record Sound (doc : List ℕ) (s : State) : Type 0 where
@@ -174,13 +160,13 @@ module _ (doc : List ℕ) (s : State) (i : Sound doc s) where
       record {
         rows =
             record {
-              names = every-append (i .rows .names) (facts.first (record { inside = inside }) facts.none);
+              names = every-append (i .rows .names) (first (record { inside = inside }) none);
               qnames = every-weaken (λ q h. qname-grows a h) (i .rows .qnames);
               events = placed-grows a b l (i .rows .events);
             };
         here =
             record {
-              names-are = every-append (rows-grow a (i .here .names-are)) (facts.first r facts.none);
+              names-are = every-append (rows-grow a (i .here .names-are)) (first r none);
               qnames-are = i .here .qnames-are;
             };
         outer = every-weaken (λ q h. known-grows a b h) (i .outer);
@@ -199,13 +185,13 @@ module _ (doc : List ℕ) (s : State) (i : Sound doc s) where
         rows =
             record {
               names = i .rows .names;
-              qnames = every-append (i .rows .qnames) (facts.first fits facts.none);
+              qnames = every-append (i .rows .qnames) (first fits none);
               events = placed-grows a b l (i .rows .events);
             };
         here =
             record {
               names-are = i .here .names-are;
-              qnames-are = every-append (rows-grow b (i .here .qnames-are)) (facts.first r facts.none);
+              qnames-are = every-append (rows-grow b (i .here .qnames-are)) (first r none);
             };
         outer = every-weaken (λ q h. known-grows a b h) (i .outer);
       }
@@ -214,7 +200,7 @@ module _ (doc : List ℕ) (s : State) (i : Sound doc s) where
   sound-leave : (os : List Scope) (next : ℕ) → Every (Known (length (s .names)) (length (s .qnames))) os → s .at + 1 ≤ next → 0 < length os
       → Sound doc (returned s os next)
   sound-leave [] next h l d = absurd (let q : ⊥ = omega arith in q)
-  sound-leave (o ∷ os) next (facts.first k h) l d =
+  sound-leave (o ∷ os) next (first k h) l d =
       let p : s .at ≤ s .at = omega arith in
       record {
         rows = record { names = i .rows .names; qnames = i .rows .qnames; events = facts.then (i .rows .events) p (facts.bare refl) l };
@@ -244,7 +230,7 @@ module _ (doc : List ℕ) (room : Room) (s : State) (i : Sound doc s) where
       sound-qname doc s i _ _ _ (omega arith)
       (record { uri-in = row-in h (uri .0) (f .2); prefix-in = row-in h (prefix .0) (f .3); local-in = row-in h (local .0) (f .4) })
   sound-step g f (found.skip t e l) = sound-quiet doc s i _ (s .here) _ (omega arith) (i .here)
-  sound-step g f (found.flush t) = sound-quiet doc s i _ _ _ (omega arith) (record { names-are = facts.none; qnames-are = facts.none })
+  sound-step g f (found.flush t) = sound-quiet doc s i _ _ _ (omega arith) (record { names-are = none; qnames-are = none })
   sound-step g f (found.texted {place = place} {units = units} t l e r) =
       sound-event doc s i _ _ (s .here) (place + 2 * units) _ (omega arith) (facts.texted (text-token _ l (t .class-is)) e) (omega arith) (i .here)
   sound-step g f (found.encoding {place = place} {units = units} a m b e r) =
@@ -275,8 +261,8 @@ module _ (doc : List ℕ) (room : Room) (s : State) (i : Sound doc s) where
       let p : s .at ≤ s .at = omega arith in
       record {
         rows = record { names = i .rows .names; qnames = i .rows .qnames; events = facts.then (i .rows .events) p (facts.nested (f .2) (f .3)) l };
-        here = record { names-are = facts.none; qnames-are = facts.none };
-        outer = facts.first (i .here) (i .outer);
+        here = record { names-are = none; qnames-are = none };
+        outer = first (i .here) (i .outer);
       }
   sound-step g f (found.leave t r) = sound-leave doc s i (s .outer) _ (i .outer) (omega arith) (f .2)
 
@@ -286,9 +272,9 @@ module _ (doc : List ℕ) (room : Room) (s : State) (i : Sound doc s) where
 pub sound-none : (doc : List ℕ) (version at : ℕ) → Sound doc (started version at)
 sound-none doc version at =
     record {
-      rows = record { names = facts.none; qnames = facts.none; events = facts.none };
-      here = record { names-are = facts.none; qnames-are = facts.none };
-      outer = facts.none;
+      rows = record { names = none; qnames = none; events = facts.none };
+      here = record { names-are = none; qnames-are = none };
+      outer = none;
     }
 
 -- the rows known in open documents are rows, too

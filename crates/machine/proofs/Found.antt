@@ -31,7 +31,7 @@ use Rattle.fields.specs.declared.Qname.{Qname}
 use Rattle.fields.specs.declared.Qname.the-variants as qname
 use Rattle.fields.specs.declared.Header.{Header}
 use Rattle.fields.specs.declared.Header.the-variants as header
-use Rattle.modes.specs.Modes.{content, declares, is, allowed, afterMisc, afterValue}
+use Rattle.modes.specs.Modes.{content, inDeclaration, is, allowed, afterMisc, afterValue}
 use Rattle.scan.specs.Steps.{eventDue, textAfter, textStep, nameAfter, nameStep, localAfter, prefixAfter, uriAfter, qnameStep, extensionAfter, extensionStep, dataAfter, targetAfter, piStep, openAfter, elementStep, attributeAfter, attributeStep, valueAfter, valueStep, nestAfter, nestStep, classStep, tokenStep, declaredStep, endStep, stepAt}
 use Rattle.modes.specs.declared.Mode.{Mode}
 use Rattle.modes.specs.declared.Mode.the-variants.{Content, Tag, First, Prolog, AfterDocType, AfterSystem, AfterPublic, Attributes, Cdata, AfterXmlDecl, AfterEncoding}
@@ -44,7 +44,7 @@ use Rattle.machine.proofs.Refusals.{number-refused, text-refused, name-
 -- a token of this class stands at the view's place and may stand there
 pub record Stands (doc : List ℕ) (v : View) (c : Class) : Type 0 where
   pub inside : v .at < length doc
-  pub outside : declares (v .mode) ≡ false
+  pub outside : inDeclaration (v .mode) ≡ false
   pub class-is : classOf (getD doc (v .at) 0) ≡ c
   pub may : allowed c v ≡ true
 
@@ -84,7 +84,7 @@ pub data Found (doc : List ℕ) (v : View) (room : Room) : Step → Type 0 where
   -- in an XML declaration: FD, or the standalone byte
   encoding : {place units : ℕ} → v .at < length doc → v .mode ≡ AfterXmlDecl → getD doc (v .at) 0 ≡ 0xFD → textAt 5 doc (v .at + 1) ≡ text.Is place units
       → v .events < room .events → Found doc v room (step.Event (getD doc (v .at) 0) place units AfterEncoding (place + 2 * units))
-  standalone : v .at < length doc → declares (v .mode) ≡ true → getD doc (v .at) 0 ≤ 2 → v .events < room .events
+  standalone : v .at < length doc → inDeclaration (v .mode) ≡ true → getD doc (v .at) 0 ≤ 2 → v .events < room .events
       → Found doc v room (step.Event 0 (getD doc (v .at) 0) 0 Prolog (v .at + 1))
   -- a list or a section closes: F5, F1
   end-attributes : Stands doc v class.EndAttributes → v .events < room .events → Found doc v room (step.Event (getD doc (v .at) 0) 0 0 Content (v .at + 1))
@@ -225,13 +225,13 @@ module _ (doc : List ℕ) (v : View) (room : Room) where
   class-found class.Extension s = extension-found s (numberAt 5 doc (v .at + 1)) refl
   class-found class.Flush s = flush s
 
-  token-found : v .at < length doc → declares (v .mode) ≡ false → Found doc v room (tokenStep doc v room (getD doc (v .at) 0))
+  token-found : v .at < length doc → inDeclaration (v .mode) ≡ false → Found doc v room (tokenStep doc v room (getD doc (v .at) 0))
   unfolding tokenStep
   token-found h d =
       cond-if (Found doc v room) (allowed (classOf (getD doc (v .at) 0)) v) _ _
       (λ t. class-found (classOf (getD doc (v .at) 0)) (record { inside = h; outside = d; class-is = refl; may = t })) (λ t. stop (omega arith))
 
-  declared-found : v .at < length doc → declares (v .mode) ≡ true → Found doc v room (declaredStep doc v room (getD doc (v .at) 0))
+  declared-found : v .at < length doc → inDeclaration (v .mode) ≡ true → Found doc v room (declaredStep doc v room (getD doc (v .at) 0))
   unfolding declaredStep textStep
   declared-found h d =
       let b = getD doc (v .at) 0 in
@@ -251,7 +251,7 @@ module _ (doc : List ℕ) (v : View) (room : Room) where
   unfolding stepAt endStep
   found =
       cond-if (Found doc v room) (ltb (v .at) (length doc)) _ _
-      (λ t. let h = ltb-true _ _ t in cond-if (Found doc v room) (declares (v .mode)) _ _ (λ u. declared-found h u) (λ u. token-found h u))
+      (λ t. let h = ltb-true _ _ t in cond-if (Found doc v room) (inDeclaration (v .mode)) _ _ (λ u. declared-found h u) (λ u. token-found h u))
       (λ t. cond-if (Found doc v room) (eqb (v .depth) 0 && eqb (v .elements) 0 && content (v .mode)) _ _ (λ u. end-found (ltb-false _ _ t) u) (λ u. stop (omega arith)))
 
   -- the same of a step that is known to be the one found

@@ -11,3 +11,4 @@ pub mod Readings
 pub mod Balance
 pub mod Goes
 pub mod Codes
+pub mod Tables

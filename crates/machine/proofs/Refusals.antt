@@ -11,7 +11,7 @@ use Rattle.sequences.proofs.Tests.{cond-if}
 use Rattle.token.specs.Answers.{largest}
 use Rattle.token.specs.declared.Shape.{Shape}
 use Rattle.token.specs.declared.Shape.the-variants.{Nothing, Fixed, Text, Blob, CodePage, Decimal, Qname, Stamp, Date, Time, ZonedTime}
-use Rattle.number.specs.Number.{Front, spelled, unended, cut, front, numberAt}
+use Rattle.number.specs.Number.{NumberFront, spelled, unended, cut, front, numberAt}
 use Rattle.number.specs.Number as numbers
 use Rattle.number.specs.declared.Number.{Number}
 use Rattle.number.specs.declared.Number.the-variants as number
@@ -23,7 +23,7 @@ use Rattle.value.specs.declared.Text.the-variants as text
 use Rattle.value.specs.declared.Field.{Field}
 use Rattle.value.specs.declared.Field.the-variants.{Payload, Reference, Refused}
 use Rattle.fields.specs.References.{nameAfter, nameAt, qnameAfter, qnameAt}
-use Rattle.fields.specs.Headers.{judged, headerAt}
+use Rattle.fields.specs.Headers.{headerJudged, headerAt}
 use Rattle.fields.specs.declared.Name.{Name}
 use Rattle.fields.specs.declared.Name.the-variants as name
 use Rattle.fields.specs.declared.Qname as qnames
@@ -37,7 +37,7 @@ abbrev NumberNot : Number → Type 0
 NumberNot (number.Is value next) = Unit
 NumberNot (number.Refused n place) = 1 ≤ n
 
-number-by : (doc : List ℕ) (at : ℕ) (f : Front) → NumberNot (numbers.judged doc at f)
+number-by : (doc : List ℕ) (at : ℕ) (f : NumberFront) → NumberNot (numbers.numberJudged doc at f)
 number-by doc at (spelled value size) = cond-if NumberNot (leb value largest) _ _ (λ t. tt) (λ t. omega arith)
 number-by doc at unended = omega arith
 number-by doc at cut = omega arith
@@ -98,7 +98,7 @@ abbrev HeaderNot : Header → Type 0
 HeaderNot (header.Is version next) = Unit
 HeaderNot (header.Refused n place) = 1 ≤ n
 
-header-by : (doc : List ℕ) (at first last : ℕ) (h : Header) → HeaderNot h → HeaderNot (judged doc at first last h)
+header-by : (doc : List ℕ) (at first last : ℕ) (h : Header) → HeaderNot h → HeaderNot (headerJudged doc at first last h)
 header-by doc at first last h k =
     cond-if HeaderNot (ltb at (length doc)) _ _
     (λ t. cond-if HeaderNot (leb first (getD doc at 0) && leb (getD doc at 0) last) h _ (λ u. k) (λ u. omega arith))
@@ -134,7 +134,7 @@ module _ (doc : List ℕ) where
   decimal-not at (number.Is size next) h = cond-if FieldNot (decimalSize size) _ _ (λ t. needed-not next size) (λ t. omega arith)
   decimal-not at (number.Refused n place) h = h
 
-  refer-not : (n : Number) → NumberNot n → FieldNot (values.qnameAfter n)
+  refer-not : (n : Number) → NumberNot n → FieldNot (values.qnamePayload n)
   refer-not (number.Is value next) h = tt
   refer-not (number.Refused n place) h = h
 

@@ -5,18 +5,19 @@ use mathlib.Core.List.{List, [], _∷_, _++_}
 use native.Mathlib.Omega.{arith}
 use lib.ListN.{length}
 use Rattle.machine.specs.Rows.{NameRow, QnameRow, EventRow, flatNames, flatQnames, flatEvents}
+use Rattle.token.specs.Answers.{nameWidth, qnameWidth, eventWidth}
 
-pub length-names : (rs : List NameRow) → length (flatNames rs) ≡ 2 * length rs
+pub length-names : (rs : List NameRow) → length (flatNames rs) ≡ nameWidth * length rs
 length-names [] = refl
-length-names (r ∷ rs) = let i : length (flatNames rs) ≡ 2 * length rs = length-names rs in omega arith
+length-names (r ∷ rs) = let i : length (flatNames rs) ≡ nameWidth * length rs = length-names rs in omega arith
 
-pub length-qnames : (rs : List QnameRow) → length (flatQnames rs) ≡ 3 * length rs
+pub length-qnames : (rs : List QnameRow) → length (flatQnames rs) ≡ qnameWidth * length rs
 length-qnames [] = refl
-length-qnames (r ∷ rs) = let i : length (flatQnames rs) ≡ 3 * length rs = length-qnames rs in omega arith
+length-qnames (r ∷ rs) = let i : length (flatQnames rs) ≡ qnameWidth * length rs = length-qnames rs in omega arith
 
-pub length-events : (rs : List EventRow) → length (flatEvents rs) ≡ 4 * length rs
+pub length-events : (rs : List EventRow) → length (flatEvents rs) ≡ eventWidth * length rs
 length-events [] = refl
-length-events (r ∷ rs) = let i : length (flatEvents rs) ≡ 4 * length rs = length-events rs in omega arith
+length-events (r ∷ rs) = let i : length (flatEvents rs) ≡ eventWidth * length rs = length-events rs in omega arith
 
 pub flat-names : (rs ss : List NameRow) → flatNames (rs ++ ss) ≡ flatNames rs ++ flatNames ss
 flat-names [] ss = refl

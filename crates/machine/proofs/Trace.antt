@@ -7,7 +7,8 @@ use native.Mathlib.Omega.{arith}
 use lib.ListN.{length}
 use borrow.Author.Tests.{le-ltb}
 use Rattle.token.specs.Answers.{longest}
-use Rattle.fields.specs.Headers.{headerAt, HeaderWithin}
+use Rattle.fields.specs.Headers.{headerAt}
+use Rattle.fields.specs.Bounds.{HeaderWithin}
 use Rattle.fields.specs.declared.Header.{Header}
 use Rattle.fields.specs.declared.Header.the-variants as header
 use Rattle.fields.proofs.Headers.{header-within}

@@ -1,5 +1,5 @@
--- What opens and closes among the events of a document (01, "Document rules" and "Numbers that bound the work"): a checker
--- that takes the tokens of event rows one after the other.
+-- Serves the code. What opens and closes among the events of a document (01, "Document rules" and "Numbers that bound the
+-- work"): a checker that takes the tokens of event rows one after the other.
 use Prim.Native.Nat.{ℕ, _+_, _-_, _≤_}
 use mathlib.Core.Bool.{Bool, true, false, cond, not, _&&_}
 use mathlib.Core.List.{List, [], _∷_}
@@ -23,8 +23,8 @@ abbrev pub opened : List ℕ → Bool → Bool → Opened
 opened documents list section = record { documents = documents; list = list; section = section }
 
 -- the outer document with nothing open
-abbrev pub closed : Opened
-closed = opened (0 ∷ []) false false
+abbrev pub nothingOpen : Opened
+nothingOpen = opened (0 ∷ []) false false
 
 -- all open elements
 abbrev pub total : List ℕ → ℕ
@@ -91,18 +91,18 @@ takenBy class.Flush b = some b
 abbrev pub taken : ℕ → Opened → Option Opened
 taken token b = takenBy (classOf token) b
 
-abbrev pub onto : (Opened → Option Opened) → Option Opened → Option Opened
-onto f none = none
-onto f (some b) = f b
+abbrev pub andThen : (Opened → Option Opened) → Option Opened → Option Opened
+andThen f none = none
+andThen f (some b) = f b
 
 -- the events one after the other
 abbrev pub check : Opened → List EventRow → Option Opened
 check b [] = some b
-check b (e ∷ es) = onto (λ c. check c es) (taken (e .token) b)
+check b (e ∷ es) = andThen (λ c. check c es) (taken (e .token) b)
 
 -- the checker takes these events, and no more is open after them than 01's bounds allow
 pub record AtMost (events : List EventRow) : Type 0 where
   pub after : Opened
-  pub reached : check closed events ≡ some after
+  pub reached : check nothingOpen events ≡ some after
   pub elements : total (after .documents) ≤ openElements
   pub nested : length (after .documents) ≤ 1 + nestedDocuments

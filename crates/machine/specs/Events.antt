@@ -10,6 +10,7 @@ use Rattle.sequences.specs.Lists.{part}
 use Rattle.token.specs.Tokens.{classOf}
 use Rattle.token.specs.declared.Class.{Class}
 use Rattle.token.specs.declared.Class.the-variants as class
+use Rattle.token.specs.Codes.{XSD-QNAME}
 use Rattle.value.specs.Fields.{textAt}
 use Rattle.value.specs.declared.Text.{Text}
 use Rattle.value.specs.declared.Text.the-variants as text
@@ -60,7 +61,7 @@ dataIn doc (text.Refused number place) = []
 abbrev pub eventBy : Class → List ℕ → List NameRow → List QnameRow → EventRow → Event
 eventBy class.Unknown doc names qnames e = standalone (e .a)
 eventBy class.Value doc names qnames e =
-    cond (eqb (e .token) 0x8C) (qnameEvent doc names qnames (e .token) (e .a)) (valued (e .token) (part doc (e .a) (e .b)))
+    cond (eqb (e .token) XSD-QNAME) (qnameEvent doc names qnames (e .token) (e .a)) (valued (e .token) (part doc (e .a) (e .b)))
 eventBy class.LaterValue doc names qnames e = valued (e .token) (part doc (e .a) (e .b))
 eventBy class.XmlDecl doc names qnames e = texted (e .token) (part doc (e .a) (2 * e .b))
 eventBy class.Encoding doc names qnames e = texted (e .token) (part doc (e .a) (2 * e .b))

@@ -1,4 +1,5 @@
--- What the rows of a reading are (01, "Rows"): each row says what stands in the document, and the events stand in order.
+-- Serves the code. What the rows of a reading are (01, "Rows"): each row says what stands in the document, and the events stand
+-- in order.
 use Prim.Native.Nat.{ℕ, _+_, _*_, _≤_, _<_}
 use mathlib.Core.Path.{_≡_}
 use mathlib.Core.Logic.{_⊎_}
@@ -6,18 +7,15 @@ use mathlib.Core.Bool.{Bool, true, false, _||_}
 use mathlib.Core.List.{List, [], _∷_, _++_}
 use lib.Dec.{eqb}
 use lib.ListN.{length}
+use Rattle.sequences.specs.Members.{Every}
 use Rattle.token.specs.Tokens.{classOf, shapeOf}
 use Rattle.token.specs.declared.Class.the-variants as class
+use Rattle.token.specs.Codes.{XMLDECL-TOKEN, ENCODING-TOKEN, DOCTYPEDECL-TOKEN, SYSTEM-TOKEN, PUBLIC-TOKEN, SUBSET-TOKEN, COMMENT-TOKEN, CDATA-TOKEN, ELEMENT-TOKEN, ATTRIBUTE-TOKEN, XSD-QNAME, ENDELEMENT-TOKEN, ENDATTRIBUTES-TOKEN, CDATAEND-TOKEN, ENDNEST-TOKEN, PI-TOKEN, NEST-TOKEN}
 use Rattle.value.specs.Fields.{textAt, fieldAt}
 use Rattle.value.specs.declared.Text.the-variants as text
 use Rattle.value.specs.declared.Field.the-variants as field
 use Rattle.machine.specs.Rows.{NameRow, QnameRow, EventRow, event}
 use Rattle.machine.specs.Machine.{State}
-
--- each element of a list has a property
-pub data Every {A : Type 0} (P : A → Type 0) : List A → Type 0 where
-  none : Every P []
-  first : {a : A} {l : List A} → P a → Every P l → Every P (a ∷ l)
 
 -- a number is one of a list's
 abbrev pub oneOf : List ℕ → ℕ → Bool
@@ -26,13 +24,13 @@ oneOf (k ∷ ks) x = eqb x k || oneOf ks x
 
 -- 01, "Rows": the tokens whose row is a text's place and units, whose row is a qname's, and whose row has two zeros
 abbrev pub textTokens : List ℕ
-textTokens = 0xFE ∷ 0xFD ∷ 0xFC ∷ 0xFB ∷ 0xFA ∷ 0xF9 ∷ 0xF3 ∷ 0xF2 ∷ []
+textTokens = XMLDECL-TOKEN ∷ ENCODING-TOKEN ∷ DOCTYPEDECL-TOKEN ∷ SYSTEM-TOKEN ∷ PUBLIC-TOKEN ∷ SUBSET-TOKEN ∷ COMMENT-TOKEN ∷ CDATA-TOKEN ∷ []
 
 abbrev pub qnameTokens : List ℕ
-qnameTokens = 0xF8 ∷ 0xF6 ∷ 0x8C ∷ []
+qnameTokens = ELEMENT-TOKEN ∷ ATTRIBUTE-TOKEN ∷ XSD-QNAME ∷ []
 
 abbrev pub bareTokens : List ℕ
-bareTokens = 0xF7 ∷ 0xF5 ∷ 0xF1 ∷ 0xEB ∷ []
+bareTokens = ENDELEMENT-TOKEN ∷ ENDATTRIBUTES-TOKEN ∷ CDATAEND-TOKEN ∷ ENDNEST-TOKEN ∷ []
 
 -- a name's text lies inside a document of this size
 pub record NameFits (size : ℕ) (r : NameRow) : Type 0 where
@@ -53,12 +51,12 @@ pub data EventFits (doc : List ℕ) (names qnames : ℕ) : EventRow → ℕ → 
       → EventFits doc names qnames (event token place a units) (a + 2 * units)
   -- F4: name row, place of the text's length
   pi : {place row start p u : ℕ} → row ≤ names → place < start → textAt 5 doc start ≡ text.Is p u
-      → EventFits doc names qnames (event 0xF4 place row start) (p + 2 * u)
+      → EventFits doc names qnames (event PI-TOKEN place row start) (p + 2 * u)
   -- F8, F6, 8C: qname row
   reference : {token place row next : ℕ} → oneOf qnameTokens token ≡ true → 1 ≤ row → row ≤ qnames → place < next → next ≤ length doc
       → EventFits doc names qnames (event token place row 0) next
   -- EC: version; the nested header has five bytes
-  nested : {place version : ℕ} → 1 ≤ version → version ≤ 2 → EventFits doc names qnames (event 0xEC place version 0) (place + 6)
+  nested : {place version : ℕ} → 1 ≤ version → version ≤ 2 → EventFits doc names qnames (event NEST-TOKEN place version 0) (place + 6)
   -- F7, F5, F1, EB
   bare : {token place : ℕ} → oneOf bareTokens token ≡ true → EventFits doc names qnames (event token place 0 0) (place + 1)
   -- other values: place and size of the payload

@@ -4,4 +4,5 @@ pub mod Facts
 pub mod Examples
 pub mod Balance
 pub mod Events
+pub mod Tables
 pub mod Contract

@@ -6,6 +6,7 @@ use mathlib.Core.List.{List, [], _∷_, _++_}
 use lib.Dec.{ltb}
 use lib.ListN.{length, getD}
 use Rattle.token.specs.Answers.{tooLong, longest}
+use Rattle.token.specs.Codes.{NEST-TOKEN, ENDNEST-TOKEN, ELEMENT-TOKEN, PI-TOKEN, ENDELEMENT-TOKEN}
 use Rattle.fields.specs.Headers.{headerAt}
 use Rattle.fields.specs.declared.Header.{Header}
 use Rattle.fields.specs.declared.Header.the-variants as header
@@ -87,12 +88,12 @@ onward s e mode here next = state next mode here (s .outer) (s .names) (s .qname
 -- a nested document begins: it has no names yet
 abbrev pub nested : State → ℕ → ℕ → State
 nested s version next =
-    state next First (scope version [] [] 0) (s .here ∷ s .outer) (s .names) (s .qnames) (s .events ++ (event 0xEC (s .at) version 0 ∷ []))
+    state next First (scope version [] [] 0) (s .here ∷ s .outer) (s .names) (s .qnames) (s .events ++ (event NEST-TOKEN (s .at) version 0 ∷ []))
 
 -- it ends: its parent's version, names and qnames return
 abbrev pub returned : State → List Scope → ℕ → State
 returned s [] next = s
-returned s (o ∷ os) next = state next Content o os (s .names) (s .qnames) (s .events ++ (event 0xEB (s .at) 0 0 ∷ []))
+returned s (o ∷ os) next = state next Content o os (s .names) (s .qnames) (s .events ++ (event ENDNEST-TOKEN (s .at) 0 0 ∷ []))
 
 -- what a step does
 abbrev pub apply : State → Step → State
@@ -112,11 +113,11 @@ apply s (step.Flush next) =
 apply s (step.Event token a b mode next) = onward s (event token (s .at) a b) mode (s .here) next
 apply s (step.Refer token number mode next) = onward s (event token (s .at) (rowOf (s .here .qnames) (number .0)) 0) mode (s .here) next
 apply s (step.Open number next) =
-    onward s (event 0xF8 (s .at) (rowOf (s .here .qnames) (number .0)) 0) Tag
+    onward s (event ELEMENT-TOKEN (s .at) (rowOf (s .here .qnames) (number .0)) 0) Tag
     (scope (s .here .version) (s .here .names) (s .here .qnames) (s .here .elements + 1)) next
-apply s (step.Pi target start next) = onward s (event 0xF4 (s .at) (rowOf (s .here .names) (target .0)) start) (afterMisc (s .mode)) (s .here) next
+apply s (step.Pi target start next) = onward s (event PI-TOKEN (s .at) (rowOf (s .here .names) (target .0)) start) (afterMisc (s .mode)) (s .here) next
 apply s (step.Close next) =
-    onward s (event 0xF7 (s .at) 0 0) Content (scope (s .here .version) (s .here .names) (s .here .qnames) (s .here .elements - 1)) next
+    onward s (event ENDELEMENT-TOKEN (s .at) 0 0) Content (scope (s .here .version) (s .here .names) (s .here .qnames) (s .here .elements - 1)) next
 apply s (step.Nest version next) = nested s version next
 apply s (step.Leave next) = returned s (s .outer) next
 

@@ -12,11 +12,12 @@ use Rattle.classes.specs.Search.{classAt}
 use Rattle.meaning.specs.Codes.{mark}
 use Rattle.marks.specs.Names.{pairOf, declaresAt}
 use Rattle.marks.specs.Marks.{markOf, MarksOf}
+use Rattle.token.specs.Answers.{qnameWidth}
 
 -- ---- a row's mark
 
-pub pair-is : (qnames classes : List ℕ) (row u v : ℕ) → u ≡ classAt classes (getD qnames (3 * (row - 1)) 0)
-    → v ≡ classAt classes (getD qnames (3 * (row - 1) + 2) 0) → 1025 * u + v ≡ pairOf qnames classes row
+pub pair-is : (qnames classes : List ℕ) (row u v : ℕ) → u ≡ classAt classes (getD qnames (qnameWidth * (row - 1)) 0)
+    → v ≡ classAt classes (getD qnames (qnameWidth * (row - 1) + 2) 0) → 1025 * u + v ≡ pairOf qnames classes row
 unfolding pairOf
 pair-is qnames classes row u v e f = rw (e, f)
 

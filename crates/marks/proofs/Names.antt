@@ -6,13 +6,15 @@ use mathlib.Core.Option.{some}
 use mathlib.Core.List.{List, [], _∷_}
 use native.Mathlib.Omega.{arith}
 use lib.ListN.{length, getD, getElem?, take, drop}
+use Rattle.sequences.specs.Lists.{same}
 use Rattle.machine.specs.Events.{nameText}
-use Rattle.classes.specs.Tables.{nameRowsIn}
+use Rattle.machine.specs.Tables.{nameRowsIn}
+use Rattle.machine.proofs.Tables.{name-row-at, every-at}
 use Rattle.classes.specs.Search.{classAt}
-use Rattle.classes.proofs.Tables.{name-row-at, every-at}
 use Rattle.classes.proofs.Classes.{class-empty, name-text-at}
-use Rattle.meaning.specs.Meaning.{declares, same, xmlns}
+use Rattle.meaning.specs.Meaning.{declares, xmlns}
 use Rattle.marks.specs.Names.{classIn, uriAt, prefixAt, Named, declaresAt, xmlnsColon}
+use Rattle.token.specs.Answers.{qnameWidth}
 
 -- ---- attributes that declare a prefix
 
@@ -31,17 +33,17 @@ module _ {doc names qnames classes : List ℕ} {rows row : ℕ} (n : Named doc n
   and-false true = refl
   and-false false = refl
 
-  module _ (u : ℕ) (eu : u ≡ classAt classes (getD qnames (3 * (row - 1)) 0)) where
+  module _ (u : ℕ) (eu : u ≡ classAt classes (getD qnames (qnameWidth * (row - 1)) 0)) where
     pub declares-uri : (u ≡ 0 → ⊥) → false ≡ declaresAt doc names qnames rows row
     unfolding declaresAt declares
     declares-uri h = rw (not-same _ (some-of _ u (eu ∙ n .uri-class) h))
 
-    module _ (zu : u ≡ 0) (v : ℕ) (ev : v ≡ classAt classes (getD qnames (3 * (row - 1) + 2) 0)) where
+    module _ (zu : u ≡ 0) (v : ℕ) (ev : v ≡ classAt classes (getD qnames (qnameWidth * (row - 1) + 2) 0)) where
       pub declares-local : (v ≡ 0 → ⊥) → false ≡ declaresAt doc names qnames rows row
       unfolding declaresAt declares
       declares-local h = rw (not-same _ (some-of _ v (ev ∙ n .local-class) h)) (sym (and-false (same (uriAt doc names qnames rows row) [])))
 
-      module _ (zv : v ≡ 0) (p : ℕ) (ep : p ≡ getD qnames (3 * (row - 1) + 1) 0) where
+      module _ (zv : v ≡ 0) (p : ℕ) (ep : p ≡ getD qnames (qnameWidth * (row - 1) + 1) 0) where
         by-prefix : (same (prefixAt doc names qnames rows row) xmlns || same (take 12 (prefixAt doc names qnames rows row)) xmlnsColon) ≡ declaresAt doc names qnames rows row
         unfolding declaresAt declares
         by-prefix = rw (empty-of _ u (eu ∙ n .uri-class) zu, empty-of _ v (ev ∙ n .local-class) zv)
@@ -49,7 +51,7 @@ module _ {doc names qnames classes : List ℕ} {rows row : ℕ} (n : Named doc n
         pub declares-none : p ≡ 0 → false ≡ declaresAt doc names qnames rows row
         unfolding nameText
         declares-none z =
-            let e : getD qnames (3 * (row - 1) + 1) 0 ≡ 0 = sym ep ∙ z in
+            let e : getD qnames (qnameWidth * (row - 1) + 1) 0 ≡ 0 = sym ep ∙ z in
             let f : prefixAt doc names qnames rows row ≡ [] = rw e in
             rw f at by-prefix
 
@@ -65,7 +67,7 @@ module _ {doc names qnames classes : List ℕ} {rows row : ℕ} (n : Named doc n
               → r ≡ declaresAt doc names qnames rows row
           declares-prefix place units e1 e2 r e =
               let s : place + 2 * units - place ≡ 2 * units = omega arith in
-              let i : getD qnames (3 * (row - 1) + 1) 0 ≡ suc (p - 1) = sym ep ∙ (let q : p ≡ suc (p - 1) = omega (arith, hp) in q) in
+              let i : getD qnames (qnameWidth * (row - 1) + 1) 0 ≡ suc (p - 1) = sym ep ∙ (let q : p ≡ suc (p - 1) = omega (arith, hp) in q) in
               let t : prefixAt doc names qnames rows row ≡ take (place + 2 * units - place) (drop place doc) =
               ap (nameText doc (nameRowsIn rows names)) i ∙ name-text-at doc (nameRowsIn rows names) (p - 1) (row-here .1) ∙ rw (s, e1, e2) in
               e ∙ rw t at by-prefix

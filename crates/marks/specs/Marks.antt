@@ -1,4 +1,4 @@
--- A table with one mark for each row of qnames, and what a mark tells.
+-- Serves the code. A table with one mark for each row of qnames, and what a mark tells.
 use Prim.Native.Nat.{ℕ, _+_, _-_, _%_, _≤_}
 use mathlib.Core.Path.{_≡_}
 use mathlib.Core.Bool.{Bool, cond}
@@ -10,17 +10,21 @@ use Rattle.marks.specs.Names.{pairOf, declaresAt}
 
 -- ---- marks of rows of qnames, in a table from row 1 on
 
+-- 2 ^ 31: no mark of a row is so large, so that one more can be told from it
+abbrev pub declaring : ℕ
+declaring = 2147483648
+
 -- the opening mark
 unfoldable pub openingIn : List ℕ → ℕ → ℕ
-openingIn marks row = getD marks (row - 1) 0 % 2147483648
+openingIn marks row = getD marks (row - 1) 0 % declaring
 
 -- an attribute with this qname declares a prefix
 unfoldable pub declaredIn : List ℕ → ℕ → Bool
-declaredIn marks row = leb 2147483648 (getD marks (row - 1) 0)
+declaredIn marks row = leb declaring (getD marks (row - 1) 0)
 
 -- the opening mark of row `row` of qnames, and 2 ^ 31 more where an attribute with this qname declares a prefix
 unfoldable pub markOf : List ℕ → List ℕ → List ℕ → List ℕ → ℕ → ℕ → ℕ
-markOf doc names qnames classes rows row = mark 0 (pairOf qnames classes row) + cond (declaresAt doc names qnames rows row) 2147483648 0
+markOf doc names qnames classes rows row = mark 0 (pairOf qnames classes row) + cond (declaresAt doc names qnames rows row) declaring 0
 
 -- the table: at place row - 1 the mark of row `row`; the pairs are small, so that 2 ^ 31 more can be told from a mark alone
 pub record MarksOf (doc names qnames classes : List ℕ) (rows qrows : ℕ) (marks : List ℕ) : Type 0 where

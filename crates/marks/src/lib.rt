@@ -3,38 +3,28 @@ ghost use mathlib.Core.Path.{_≡_};
 ghost use mathlib.Core.Bool.{_||_};
 ghost use Prim.Native.Nat.{ℕ, _≤_, _<_};
 ghost use lib.ListN.{length, take};
-ghost use Rattle.meaning.specs.Meaning.{same, xmlns};
+ghost use Rattle.sequences.specs.Lists.{same};
+ghost use Rattle.meaning.specs.Meaning.{xmlns};
 ghost use Rattle.marks.specs.Names.{pairOf, PairFits, Named, declaresAt, xmlnsColon};
 ghost use Rattle.marks.specs.Marks.{markOf, MarksOf};
+
+// Added to the mark of a qname that declares a prefix.
+pub const DECLARING: u32 = 2147483648;
 
 // ---- classes
 
 // The classes of URI and local of a row of qnames as one number.
-fn pair_at(qnames: &[u32], classes: &[u32; 1024], row: usize) -> u32
+fn pair_at(qnames: &[u32], classes: &[u32; token::NAME_ROWS], row: usize) -> u32
     requires { ⌜ PairFits (now qnames) (now classes) row ⌝ }
     ensures { λ r. ⌜ (r ≡ pairOf (now (qnames .entry)) (now (classes .entry)) row) × (r ≤ 1050624) ⌝ }
 {
-    let first = 3 * (row - 1);
+    let first = token::QNAME_WIDTH * (row - 1);
     let uri = classes::class_of(qnames, classes, first);
     let local = classes::class_of(qnames, classes, first + 2);
-    1025 * uri + local
+    classes::CLASSES * uri + local
 }
 
 // ---- prefixes
-
-fn same_bytes(a: &[u8], b: &[u8]) -> bool
-    requires { ⌜ length (now a) ≡ length (now b) ⌝ }
-    ensures { λ r. ⌜ r ≡ same (now (a .entry)) (now (b .entry)) ⌝ }
-{
-    let mut i = 0;
-    while i < a.len() {
-        if a[i] != b[i] {
-            return false;
-        }
-        i += 1;
-    }
-    true
-}
 
 // The text is "xmlns" or starts "xmlns:".
 fn is_xmlns(text: &[u8]) -> bool
@@ -42,12 +32,12 @@ fn is_xmlns(text: &[u8]) -> bool
 {
     let word = [0x78u8, 0, 0x6D, 0, 0x6C, 0, 0x6E, 0, 0x73, 0, 0x3A, 0];
     if text.len() == 10 {
-        return same_bytes(text, &word[..10]);
+        return slices::same_bytes(text, &word[..10]);
     }
     if text.len() < 12 {
         return false;
     }
-    same_bytes(&text[..12], &word)
+    slices::same_bytes(&text[..12], &word)
 }
 
 // The attribute of a row of qnames declares a prefix. Classes are compared first, bytes seldom.
@@ -55,14 +45,14 @@ fn declares_at(
     doc: &[u8],
     names: &[u32],
     qnames: &[u32],
-    classes: &[u32; 1024],
+    classes: &[u32; token::NAME_ROWS],
     rows: usize,
     row: usize,
 ) -> bool
     requires { ⌜ Named (now doc) (now names) (now qnames) (now classes) rows row ⌝ }
     ensures { λ r. ⌜ r ≡ declaresAt (now (doc .entry)) (now (names .entry)) (now (qnames .entry)) rows row ⌝ }
 {
-    let first = 3 * (row - 1);
+    let first = token::QNAME_WIDTH * (row - 1);
     if classes::class_of(qnames, classes, first) != 0 {
         return false;
     }
@@ -86,7 +76,7 @@ fn mark_at(
     doc: &[u8],
     names: &[u32],
     qnames: &[u32],
-    classes: &[u32; 1024],
+    classes: &[u32; token::NAME_ROWS],
     rows: usize,
     row: usize,
 ) -> u32
@@ -96,7 +86,7 @@ fn mark_at(
 {
     let opening = 65536 + 8 * pair_at(qnames, classes, row);
     if declares_at(doc, names, qnames, classes, rows, row) {
-        return opening + 2147483648;
+        return opening + DECLARING;
     }
     opening
 }
@@ -106,10 +96,10 @@ pub fn fill(
     doc: &[u8],
     names: &[u32],
     qnames: &[u32],
-    classes: &[u32; 1024],
+    classes: &[u32; token::NAME_ROWS],
     rows: usize,
     qrows: usize,
-    marks: &mut [u32; 1024],
+    marks: &mut [u32; token::QNAME_ROWS],
 )
     requires { ⌜ (qrows ≤ 1024) × (length (now marks) ≡ 1024)
         × ((row : ℕ) → 1 ≤ row → row ≤ qrows → Named (now doc) (now names) (now qnames) (now classes) rows row) ⌝ }

@@ -7,14 +7,15 @@ use mathlib.Core.List.{List, [], _∷_, _++_, map, append-assoc}
 use mathlib.Core.Bool.{Bool, true, false}
 use native.Mathlib.Omega.{arith}
 use lib.ListN.{length, getD, length-append, length-map}
-use Rattle.sequences.specs.Lists.{Bytes}
+use Rattle.sequences.specs.Lists.{Bytes, same}
+use Rattle.sequences.specs.Members.{Every, none, first, In, here, there}
 use Rattle.sequences.proofs.Units.{bytes-none, bytes-first, bytes-rest}
-use Rattle.machine.specs.Facts.{Every, none, first}
-use Rattle.meaning.specs.Meaning.{Symbol, unit, opening, ending, attribute, closing, value, qname, same, sameMeaning}
-use Rattle.meaning.specs.Pairs.{pairsOf, In, here, there}
-use Rattle.meaning.specs.Codes.{mark, both, codeOf, codesOf, sizeOf, sizesOf, Classes, Coded}
-use Rattle.meaning.proofs.Same.{same-list, same-meaning}
-use Rattle.meaning.proofs.Members.{in-none, in-cons, in-either}
+use Rattle.sequences.proofs.Same.{same-list}
+use Rattle.sequences.proofs.Members.{in-none, in-cons, in-either}
+use Rattle.meaning.specs.Meaning.{Symbol, unit, opening, ending, attribute, closing, value, qname, sameMeaning}
+use Rattle.meaning.specs.Pairs.{pairsOf}
+use Rattle.meaning.specs.Codes.{mark, both, codeOf, codesOf, symbolSize, symbolSizes, Classes, Coded}
+use Rattle.meaning.proofs.Same.{same-meaning}
 use Rattle.meaning.proofs.Exact.{pairs-map}
 
 -- ---- a code is a first number, and the bytes of a value without text
@@ -239,7 +240,7 @@ module _ {Known : List ℕ → Type 0} (cls : List ℕ → ℕ) (c : Classes Kno
 
 -- ---- counts
 
-code-size : (cls : List ℕ → ℕ) (x : Symbol) → length (codeOf cls x) ≡ sizeOf x
+code-size : (cls : List ℕ → ℕ) (x : Symbol) → length (codeOf cls x) ≡ symbolSize x
 code-size cls (unit u) = refl
 code-size cls (opening uri local) = refl
 code-size cls (attribute uri local) = refl
@@ -249,8 +250,8 @@ code-size cls closing = refl
 code-size cls (value token payload) = omega (arith, length-map payload (mark 6))
 
 -- the count of numbers: 1 for each symbol, and the bytes of values without text
-pub code-length : (cls : List ℕ → ℕ) (l : List Symbol) → length (codesOf cls l) ≡ sizesOf l
-unfolding codesOf sizesOf
+pub code-length : (cls : List ℕ → ℕ) (l : List Symbol) → length (codesOf cls l) ≡ symbolSizes l
+unfolding codesOf symbolSizes
 code-length cls [] = refl
 code-length cls (x ∷ l) = let i = code-length cls l in let s = code-size cls x in omega (arith, length-append (codeOf cls x) (codesOf cls l))
 

@@ -9,8 +9,10 @@ use mathlib.Core.Option.{some}
 use native.Mathlib.Omega.{arith}
 use native.Mathlib.Nat.{eq-or-lt-of-le, sub-zero}
 use lib.ListN.{length, getElem?}
-use Rattle.meaning.specs.Pairs.{Pair, pair, equalTo, pairsFrom, pairsOf, In, here, there, Before, Ascending, Once}
-use Rattle.meaning.proofs.Members.{in-none, in-cons, in-first, in-left, in-right, in-either, pair-in, pair-is}
+use Rattle.sequences.specs.Members.{In, here, there}
+use Rattle.sequences.proofs.Members.{in-none, in-cons, in-first, in-left, in-right, in-either}
+use Rattle.meaning.specs.Pairs.{Pair, pair, equalTo, pairsFrom, pairsOf, Before, Ascending, Once}
+use Rattle.meaning.proofs.Members.{pair-in, pair-is}
 
 some-is : {A : Type 0} {a b : A} → some a ≡ some b → a ≡ b
 some-is e = cc

@@ -4,12 +4,10 @@ use mathlib.Core.Path.{_≡_, refl, sym, ap, _∙_}
 use mathlib.Core.Bool.{Bool, true, false, cond}
 use mathlib.Core.Option.{some}
 use mathlib.Core.List.{List, [], _∷_, _++_, map, append-assoc}
-use lib.ListN.{length}
 use Rattle.sequences.specs.Lists.{unitsOf}
 use Rattle.machine.specs.Events.{Event, texted, valued}
 use Rattle.plan.specs.Text.{textOf}
-use Rattle.meaning.specs.Meaning.{Symbol, unit, Attribute, none-open, counted, skipped, unless, symbolsOf, attributeAfter, begins, inside, depthAfter, onto, newIf, rest, pieces, meanings, sameMeaning}
-use Rattle.meaning.specs.Pairs.{pairsOf}
+use Rattle.meaning.specs.Meaning.{Symbol, unit, Attribute, none-open, counted, skipped, unless, symbolsOf, attributeAfter, begins, inside, depthAfter, onto, newIf, rest, pieces, meanings}
 use Rattle.meaning.specs.Recut.{ValueRun, no-value, one-value, ChunkRun, no-chunk, one-chunk, Recut, none, event, values, chunks}
 
 map-append : (us vs : List ℕ) → map unit (us ++ vs) ≡ map unit us ++ map unit vs
@@ -98,8 +96,3 @@ recut-pieces depth q (chunks {us} {vs} {es} {fs} {joined} a b r) =
 pub recut-meanings : {es fs : List Event} → Recut es fs → meanings es ≡ meanings fs
 unfolding meanings
 recut-meanings r = ap rest (recut-pieces 0 none-open r)
-
--- so both numbers of listing agree, and the pairs do
-pub recut-pairs : {es fs : List Event} → Recut es fs
-    → (length (meanings es) ≡ length (meanings fs)) × (pairsOf sameMeaning (meanings es) ≡ pairsOf sameMeaning (meanings fs))
-recut-pairs r = (ap length (recut-meanings r), ap (pairsOf sameMeaning) (recut-meanings r))

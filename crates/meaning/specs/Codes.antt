@@ -1,4 +1,5 @@
--- Symbols as numbers, by which the program compares meanings. A text of names stands as its class, a number up to 1,024.
+-- Serves the code. Symbols as numbers, by which the program compares meanings. A text of names stands as its class, a number up
+-- to 1,024.
 use Prim.Native.Nat.{ℕ, _+_, _*_, _≤_, _<_}
 use mathlib.Core.Path.{_≡_}
 use mathlib.Core.List.{List, [], _∷_, _++_, map}
@@ -30,18 +31,18 @@ codesOf cls [] = []
 codesOf cls (s ∷ l) = codeOf cls s ++ codesOf cls l
 
 -- the count of numbers of a symbol, and of a meaning
-abbrev pub sizeOf : Symbol → ℕ
-sizeOf (unit u) = 1
-sizeOf (opening uri local) = 1
-sizeOf (attribute uri local) = 1
-sizeOf (qname uri local) = 1
-sizeOf ending = 1
-sizeOf closing = 1
-sizeOf (value token payload) = 1 + length payload
+abbrev pub symbolSize : Symbol → ℕ
+symbolSize (unit u) = 1
+symbolSize (opening uri local) = 1
+symbolSize (attribute uri local) = 1
+symbolSize (qname uri local) = 1
+symbolSize ending = 1
+symbolSize closing = 1
+symbolSize (value token payload) = 1 + length payload
 
-unfoldable pub sizesOf : List Symbol → ℕ
-sizesOf [] = 0
-sizesOf (s ∷ l) = sizeOf s + sizesOf l
+unfoldable pub symbolSizes : List Symbol → ℕ
+symbolSizes [] = 0
+symbolSizes (s ∷ l) = symbolSize s + symbolSizes l
 
 -- the classes of known texts are at most 1,024, and equal only for equal texts
 pub record Classes (Known : List ℕ → Type 0) (cls : List ℕ → ℕ) : Type 0 where

@@ -6,9 +6,10 @@ use mathlib.Core.Option.{Option, none, some}
 use mathlib.Core.List.{List, [], _∷_, _++_, map}
 use lib.Dec.{eqb}
 use lib.ListN.{take}
-use Rattle.sequences.specs.Lists.{unitsOf}
+use Rattle.sequences.specs.Lists.{same, unitsOf}
 use Rattle.machine.specs.Events.{Event, texted, standalone, pi, qnamed, valued, nest, plain}
 use Rattle.plan.specs.Text.{textOf}
+use Rattle.token.specs.Codes.{ELEMENT-TOKEN, ATTRIBUTE-TOKEN, ENDELEMENT-TOKEN, ENDATTRIBUTES-TOKEN, CDATA-TOKEN}
 
 pub data Symbol : Type 0 where
   -- a unit of text, of a value or of CDATA
@@ -33,13 +34,6 @@ pub data Attribute : Type 0 where
 -- the bytes of "xmlns", and of ":"
 abbrev pub xmlns : List ℕ
 xmlns = 0x78 ∷ 0 ∷ 0x6D ∷ 0 ∷ 0x6C ∷ 0 ∷ 0x6E ∷ 0 ∷ 0x73 ∷ 0 ∷ []
-
--- equal lists of bytes
-abbrev pub same : List ℕ → List ℕ → Bool
-same [] [] = true
-same [] (y ∷ t) = false
-same (x ∷ s) [] = false
-same (x ∷ s) (y ∷ t) = eqb x y && same s t
 
 -- URI and local are empty, and the prefix is "xmlns" or starts "xmlns:"
 unfoldable pub declares : List ℕ → List ℕ → List ℕ → Bool
@@ -66,16 +60,16 @@ shownAs token payload (some units) = map unit units
 -- ELEMENT, ATTRIBUTE, XSD-QNAME
 unfoldable pub namedSymbols : Attribute → ℕ → List ℕ → List ℕ → List ℕ → List Symbol
 namedSymbols q token uri prefix local =
-    cond (eqb token 0xF8) (opening uri local ∷ [])
-    (cond (eqb token 0xF6) (closed q ++ cond (declares uri prefix local) [] (attribute uri local ∷ [])) (unless q (qname uri local ∷ [])))
+    cond (eqb token ELEMENT-TOKEN) (opening uri local ∷ [])
+    (cond (eqb token ATTRIBUTE-TOKEN) (closed q ++ cond (declares uri prefix local) [] (attribute uri local ∷ [])) (unless q (qname uri local ∷ [])))
 
 -- ENDELEMENT; ENDATTRIBUTES closes the last attribute
 unfoldable pub plainSymbols : Attribute → ℕ → List Symbol
-plainSymbols q token = cond (eqb token 0xF7) (ending ∷ []) (cond (eqb token 0xF5) (closed q) [])
+plainSymbols q token = cond (eqb token ENDELEMENT-TOKEN) (ending ∷ []) (cond (eqb token ENDATTRIBUTES-TOKEN) (closed q) [])
 
 -- what an event inside a record adds to its meaning; nothing else counts
 abbrev pub symbolsOf : Attribute → Event → List Symbol
-symbolsOf q (texted token t) = cond (eqb token 0xF2) (map unit (unitsOf t)) []
+symbolsOf q (texted token t) = cond (eqb token CDATA-TOKEN) (map unit (unitsOf t)) []
 symbolsOf q (standalone b) = []
 symbolsOf q (pi target t) = []
 symbolsOf q (qnamed token uri prefix local) = namedSymbols q token uri prefix local
@@ -87,17 +81,17 @@ abbrev pub attributeAfter : Attribute → Event → Attribute
 attributeAfter q (texted token t) = q
 attributeAfter q (standalone b) = q
 attributeAfter q (pi target t) = q
-attributeAfter q (qnamed token uri prefix local) = cond (eqb token 0xF6) (cond (declares uri prefix local) skipped counted) q
+attributeAfter q (qnamed token uri prefix local) = cond (eqb token ATTRIBUTE-TOKEN) (cond (declares uri prefix local) skipped counted) q
 attributeAfter q (valued token payload) = q
 attributeAfter q (nest version) = q
-attributeAfter q (plain token) = cond (eqb token 0xF5) none-open q
+attributeAfter q (plain token) = cond (eqb token ENDATTRIBUTES-TOKEN) none-open q
 
 -- an element opens
 abbrev pub opens : Event → Bool
 opens (texted token t) = false
 opens (standalone b) = false
 opens (pi target t) = false
-opens (qnamed token uri prefix local) = eqb token 0xF8
+opens (qnamed token uri prefix local) = eqb token ELEMENT-TOKEN
 opens (valued token payload) = false
 opens (nest version) = false
 opens (plain token) = false
@@ -109,7 +103,7 @@ closes (pi target t) = false
 closes (qnamed token uri prefix local) = false
 closes (valued token payload) = false
 closes (nest version) = false
-closes (plain token) = eqb token 0xF7
+closes (plain token) = eqb token ENDELEMENT-TOKEN
 
 -- elements open after an event, counted across nested documents
 unfoldable pub depthAfter : ℕ → Event → ℕ
@@ -151,14 +145,14 @@ meanings es = rest (pieces 0 none-open es)
 -- ---- equal meanings
 
 -- a symbol's kind and the two lists that it carries, which together are the symbol
-abbrev pub kindOf : Symbol → ℕ
-kindOf (unit u) = 0
-kindOf (opening uri local) = 1
-kindOf ending = 2
-kindOf (attribute uri local) = 3
-kindOf closing = 4
-kindOf (value token payload) = 5
-kindOf (qname uri local) = 6
+abbrev pub symbolKind : Symbol → ℕ
+symbolKind (unit u) = 0
+symbolKind (opening uri local) = 1
+symbolKind ending = 2
+symbolKind (attribute uri local) = 3
+symbolKind closing = 4
+symbolKind (value token payload) = 5
+symbolKind (qname uri local) = 6
 
 abbrev pub firstOf : Symbol → List ℕ
 firstOf (unit u) = u ∷ []
@@ -179,7 +173,7 @@ secondOf (value token payload) = payload
 secondOf (qname uri local) = local
 
 unfoldable pub sameSymbol : Symbol → Symbol → Bool
-sameSymbol x y = eqb (kindOf x) (kindOf y) && (same (firstOf x) (firstOf y) && same (secondOf x) (secondOf y))
+sameSymbol x y = eqb (symbolKind x) (symbolKind y) && (same (firstOf x) (firstOf y) && same (secondOf x) (secondOf y))
 
 abbrev pub sameMeaning : List Symbol → List Symbol → Bool
 sameMeaning [] [] = true

@@ -8,6 +8,7 @@ use mathlib.Core.List.{List, [], _∷_, _++_}
 use Rattle.sequences.specs.Lists.{unitsOf}
 use Rattle.machine.specs.Events.{Event, texted, valued}
 use Rattle.plan.specs.Text.{textOf}
+use Rattle.token.specs.Codes.{CDATA-TOKEN}
 
 -- a run of values that have a text, with the units of their joined text
 pub data ValueRun : List Event → List ℕ → Type 0 where
@@ -18,7 +19,7 @@ pub data ValueRun : List Event → List ℕ → Type 0 where
 -- a run of CDATA chunks, with the units of their joined text
 pub data ChunkRun : List Event → List ℕ → Type 0 where
   no-chunk : ChunkRun [] []
-  one-chunk : {text : List ℕ} {es : List Event} {joined : List ℕ} → ChunkRun es joined → ChunkRun (texted 0xF2 text ∷ es) (unitsOf text ++ joined)
+  one-chunk : {text : List ℕ} {es : List Event} {joined : List ℕ} → ChunkRun es joined → ChunkRun (texted CDATA-TOKEN text ∷ es) (unitsOf text ++ joined)
 
 -- the same events, except for how such runs are cut
 pub data Recut : List Event → List Event → Type 0 where

@@ -3,7 +3,7 @@ use Prim.Native.Nat.{ℕ}
 use mathlib.Core.Path.{_≡_, refl}
 use mathlib.Core.Bool.{_||_}
 use lib.Dec.{leb, eqb}
-use Rattle.modes.specs.Modes.{content, listing, declares, numberOf}
+use Rattle.modes.specs.Modes.{content, listing, inDeclaration, numberOf}
 use Rattle.modes.specs.declared.Mode.{Mode}
 use Rattle.modes.specs.declared.Mode.the-variants.{Content, Tag, First, Prolog, AfterDocType, AfterSystem, AfterPublic, Attributes, Cdata, AfterXmlDecl, AfterEncoding}
 
@@ -46,7 +46,7 @@ either-is Cdata = refl
 either-is AfterXmlDecl = refl
 either-is AfterEncoding = refl
 
-pub declares-is : (m : Mode) → leb 9 (numberOf m) ≡ declares m
+pub declares-is : (m : Mode) → leb 9 (numberOf m) ≡ inDeclaration m
 declares-is Content = refl
 declares-is Tag = refl
 declares-is First = refl

@@ -37,18 +37,18 @@ listing AfterXmlDecl = false
 listing AfterEncoding = false
 
 -- inside an XML declaration: the next byte is no token
-abbrev pub declares : Mode → Bool
-declares Content = false
-declares Tag = false
-declares First = false
-declares Prolog = false
-declares AfterDocType = false
-declares AfterSystem = false
-declares AfterPublic = false
-declares Attributes = false
-declares Cdata = false
-declares AfterXmlDecl = true
-declares AfterEncoding = true
+abbrev pub inDeclaration : Mode → Bool
+inDeclaration Content = false
+inDeclaration Tag = false
+inDeclaration First = false
+inDeclaration Prolog = false
+inDeclaration AfterDocType = false
+inDeclaration AfterSystem = false
+inDeclaration AfterPublic = false
+inDeclaration Attributes = false
+inDeclaration Cdata = false
+inDeclaration AfterXmlDecl = true
+inDeclaration AfterEncoding = true
 
 -- a mode's number, to compare two of them
 abbrev pub numberOf : Mode → ℕ

@@ -5,6 +5,29 @@ ghost use mathlib.Core.Bool.{_&&_, _||_};
 ghost use Rattle.modes.specs.Modes.{numberOf, allowed, afterMetadata, afterMisc, afterValue};
 use token::Class;
 
+// Modes by their numbers, to compare two of them: up to AFTER_PUBLIC content may stand, up to ATTRIBUTES values and metadata.
+const CONTENT: usize = 0;
+
+const TAG: usize = 1;
+
+const FIRST: usize = 2;
+
+const PROLOG: usize = 3;
+
+const AFTER_DOCTYPE: usize = 4;
+
+const AFTER_SYSTEM: usize = 5;
+
+pub const AFTER_PUBLIC: usize = 6;
+
+const ATTRIBUTES: usize = 7;
+
+const CDATA: usize = 8;
+
+pub const AFTER_XMLDECL: usize = 9;
+
+const AFTER_ENCODING: usize = 10;
+
 // What may come next.
 pub enum Mode {
     Content,
@@ -47,17 +70,17 @@ pub fn number_of(mode: Mode) -> usize
     ensures { λ r. ⌜ r ≡ numberOf mode ⌝ }
 {
     match mode {
-        Mode::Content => 0,
-        Mode::Tag => 1,
-        Mode::First => 2,
-        Mode::Prolog => 3,
-        Mode::AfterDocType => 4,
-        Mode::AfterSystem => 5,
-        Mode::AfterPublic => 6,
-        Mode::Attributes => 7,
-        Mode::Cdata => 8,
-        Mode::AfterXmlDecl => 9,
-        Mode::AfterEncoding => 10,
+        Mode::Content => CONTENT,
+        Mode::Tag => TAG,
+        Mode::First => FIRST,
+        Mode::Prolog => PROLOG,
+        Mode::AfterDocType => AFTER_DOCTYPE,
+        Mode::AfterSystem => AFTER_SYSTEM,
+        Mode::AfterPublic => AFTER_PUBLIC,
+        Mode::Attributes => ATTRIBUTES,
+        Mode::Cdata => CDATA,
+        Mode::AfterXmlDecl => AFTER_XMLDECL,
+        Mode::AfterEncoding => AFTER_ENCODING,
     }
 }
 
@@ -135,27 +158,30 @@ pub fn may_stand(class: Class, v: View) -> bool
     let m = number_of(mode);
     match class {
         Class::Unknown => false,
-        Class::Value => m <= 7,
-        Class::LaterValue => both(m <= 7, v.version == 2),
-        Class::XmlDecl => m == 2,
+        Class::Value => m <= ATTRIBUTES,
+        Class::LaterValue => both(m <= ATTRIBUTES, v.version == 2),
+        Class::XmlDecl => m == FIRST,
         Class::Encoding => false,
-        Class::DocType => either(m == 2, m == 3),
-        Class::System => m == 4,
-        Class::Public => either(m == 4, m == 5),
-        Class::Subset => either(either(m == 4, m == 5), m == 6),
-        Class::Element => m <= 6,
-        Class::EndElement => both(m <= 6, 0 < v.elements),
-        Class::Attribute => either(m == 1, m == 7),
-        Class::EndAttributes => m == 7,
-        Class::Pi => m <= 6,
-        Class::Comment => m <= 6,
-        Class::Cdata => either(m <= 6, m == 8),
-        Class::CdataEnd => m == 8,
-        Class::NameDef => m <= 7,
-        Class::QnameDef => m <= 7,
-        Class::Nest => m <= 6,
-        Class::EndNest => both(both(m <= 6, 0 < v.depth), v.elements == 0),
-        Class::Extension => m <= 7,
-        Class::Flush => m <= 7,
+        Class::DocType => either(m == FIRST, m == PROLOG),
+        Class::System => m == AFTER_DOCTYPE,
+        Class::Public => either(m == AFTER_DOCTYPE, m == AFTER_SYSTEM),
+        Class::Subset => either(
+            either(m == AFTER_DOCTYPE, m == AFTER_SYSTEM),
+            m == AFTER_PUBLIC,
+        ),
+        Class::Element => m <= AFTER_PUBLIC,
+        Class::EndElement => both(m <= AFTER_PUBLIC, 0 < v.elements),
+        Class::Attribute => either(m == TAG, m == ATTRIBUTES),
+        Class::EndAttributes => m == ATTRIBUTES,
+        Class::Pi => m <= AFTER_PUBLIC,
+        Class::Comment => m <= AFTER_PUBLIC,
+        Class::Cdata => either(m <= AFTER_PUBLIC, m == CDATA),
+        Class::CdataEnd => m == CDATA,
+        Class::NameDef => m <= ATTRIBUTES,
+        Class::QnameDef => m <= ATTRIBUTES,
+        Class::Nest => m <= AFTER_PUBLIC,
+        Class::EndNest => both(both(m <= AFTER_PUBLIC, 0 < v.depth), v.elements == 0),
+        Class::Extension => m <= ATTRIBUTES,
+        Class::Flush => m <= ATTRIBUTES,
     }
 }

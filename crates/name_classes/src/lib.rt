@@ -5,17 +5,21 @@ ghost use mathlib.Core.Bool.{cond};
 ghost use Prim.Native.Nat.{_+_, _*_, _%_, _≤_, _<_};
 ghost use lib.ListN.{length, getD};
 ghost use lib.Dec.{eqb};
-ghost use Rattle.sequences.specs.Lists.{Front, part};
-ghost use Rattle.machine.specs.Facts.{Every, NameFits};
-ghost use Rattle.form.specs.Places.{sameText};
-ghost use Rattle.classes.specs.Tables.{nameRowsIn};
-ghost use Rattle.classes.specs.Classes.{nameClasses, hashOf};
-ghost use Rattle.classes.specs.Search.{textOf, NameTable, slotOf, Last, Chained};
+ghost use Rattle.sequences.specs.Lists.{Front, part, same};
+ghost use Rattle.sequences.specs.Members.{Every};
+ghost use Rattle.machine.specs.Facts.{NameFits};
+ghost use Rattle.machine.specs.Tables.{nameRowsIn, NamesInside};
+ghost use Rattle.classes.specs.Classes.{nameClasses, textHash};
+ghost use Rattle.classes.specs.Search.{rowTextAt, slotOf, Last, Chained};
+ghost use Rattle.token.specs.Answers.{nameWidth};
+
+// The slots, as a hash has them.
+const MODULUS: u64 = classes::SLOTS as u64;
 
 // Equal texts have equal hashes.
 fn hash_of(doc: &[u8], place: usize, size: usize) -> u64
     requires { ⌜ (place + size ≤ length (now doc)) × (length (now doc) ≤ 65536) ⌝ }
-    ensures { λ r. ⌜ r ≡ hashOf (part (now (doc .entry)) place size) ⌝ }
+    ensures { λ r. ⌜ r ≡ textHash (part (now (doc .entry)) place size) ⌝ }
 {
     let mut h: u64 = 0;
     let mut i: usize = 0;
@@ -26,55 +30,40 @@ fn hash_of(doc: &[u8], place: usize, size: usize) -> u64
     h
 }
 
-// Whether two parts of the document are the same bytes.
-fn same_part(doc: &[u8], a: usize, b: usize, size: usize) -> bool
-    requires { ⌜ (a + size ≤ length (now doc)) × (b + size ≤ length (now doc)) × (length (now doc) ≤ 65536) ⌝ }
-    ensures { λ r. ⌜ r ≡ sameText (part (now (doc .entry)) a size) (part (now (doc .entry)) b size) ⌝ }
-{
-    let mut i: usize = 0;
-    while i < size {
-        if doc[a + i] != doc[b + i] {
-            return false;
-        }
-        i += 1;
-    }
-    true
-}
-
-// Whether row `j` of names has this text; rows of other lengths are told apart without a look at their bytes.
+// Whether row `j` of names has this text.
 fn same_row(doc: &[u8], names: &[u32], j: usize, place: usize, units: usize) -> bool
-    requires { ⌜ (j < 1024) × (2 * j + 2 ≤ length (now names)) × (length (now doc) ≤ 65536) × (place + 2 * units ≤ length (now doc))
-        × (getD (now names) (2 * j) 0 + 2 * getD (now names) (2 * j + 1) 0 ≤ length (now doc)) ⌝ }
-    ensures { λ r. ⌜ r ≡ sameText (textOf (now (doc .entry)) (now (names .entry)) j) (part (now (doc .entry)) place (2 * units)) ⌝ }
+    requires { ⌜ (j < 1024) × (nameWidth * j + nameWidth ≤ length (now names)) × (length (now doc) ≤ 65536) × (place + 2 * units ≤ length (now doc))
+        × (getD (now names) (nameWidth * j) 0 + 2 * getD (now names) (nameWidth * j + 1) 0 ≤ length (now doc)) ⌝ }
+    ensures { λ r. ⌜ r ≡ same (rowTextAt (now (doc .entry)) (now (names .entry)) j) (part (now (doc .entry)) place (2 * units)) ⌝ }
 {
-    if slices::cell(names, 2 * j + 1) != units {
-        return false;
-    }
-    same_part(doc, slices::cell(names, 2 * j), place, 2 * units)
+    let from = slices::cell(names, token::NAME_WIDTH * j);
+    let to = from + 2 * slices::cell(names, token::NAME_WIDTH * j + 1);
+    let end = place + 2 * units;
+    slices::same_bytes(&doc[from..to], &doc[place..end])
 }
 
 // The slot of row `r` of names.
 fn slot_of(doc: &[u8], names: &[u32], r: usize) -> usize
-    requires { ⌜ NameTable (now doc) (now names) (r + 1) ⌝ }
-    ensures { λ s. ⌜ (s ≡ slotOf (textOf (now (doc .entry)) (now (names .entry)) r)) × (s < 2039) ⌝ }
+    requires { ⌜ NamesInside (now doc) (now names) (r + 1) ⌝ }
+    ensures { λ s. ⌜ (s ≡ slotOf (rowTextAt (now (doc .entry)) (now (names .entry)) r)) × (s < 2039) ⌝ }
 {
     let hash = hash_of(
         doc,
-        slices::cell(names, 2 * r),
-        2 * slices::cell(names, 2 * r + 1),
+        slices::cell(names, token::NAME_WIDTH * r),
+        2 * slices::cell(names, token::NAME_WIDTH * r + 1),
     );
-    (hash % 2039) as usize
+    (hash % MODULUS) as usize
 }
 
 // The last row before row `r` of names with its text, along the chain of its slot from row `first` on; 1024 where there is none.
 fn find_name(doc: &[u8], names: &[u32], chain: &[u16; 1024], first: usize, r: usize) -> usize
-    requires { ⌜ NameTable (now doc) (now names) (r + 1)
-        × Chained (λ k. slotOf (textOf (now doc) (now names) k)) r (now chain)
-        × Last (λ k. slotOf (textOf (now doc) (now names) k)) (slotOf (textOf (now doc) (now names) r)) r first ⌝ }
-    ensures { λ j. ⌜ Last (textOf (now (doc .entry)) (now (names .entry))) (textOf (now (doc .entry)) (now (names .entry)) r) r j ⌝ }
+    requires { ⌜ NamesInside (now doc) (now names) (r + 1)
+        × Chained (λ k. slotOf (rowTextAt (now doc) (now names) k)) r (now chain)
+        × Last (λ k. slotOf (rowTextAt (now doc) (now names) k)) (slotOf (rowTextAt (now doc) (now names) r)) r first ⌝ }
+    ensures { λ j. ⌜ Last (rowTextAt (now (doc .entry)) (now (names .entry))) (rowTextAt (now (doc .entry)) (now (names .entry)) r) r j ⌝ }
 {
-    let place = slices::cell(names, 2 * r);
-    let units = slices::cell(names, 2 * r + 1);
+    let place = slices::cell(names, token::NAME_WIDTH * r);
+    let units = slices::cell(names, token::NAME_WIDTH * r + 1);
     let mut j = first;
     while j < 1024 {
         if same_row(doc, names, j, place, units) {
@@ -87,25 +76,25 @@ fn find_name(doc: &[u8], names: &[u32], chain: &[u16; 1024], first: usize, r: us
 
 // The class of row `r` of names where no earlier row has its text: 0 for the empty text.
 fn own_class(names: &[u32], r: usize) -> u32
-    requires { ⌜ (r < 1024) × (2 * r + 2 ≤ length (now names)) ⌝ }
-    ensures { λ c. ⌜ c ≡ cond (eqb (getD (now (names .entry)) (2 * r + 1) 0) 0) 0 (r + 1) ⌝ }
+    requires { ⌜ (r < 1024) × (nameWidth * r + nameWidth ≤ length (now names)) ⌝ }
+    ensures { λ c. ⌜ c ≡ cond (eqb (getD (now (names .entry)) (nameWidth * r + 1) 0) 0) 0 (r + 1) ⌝ }
 {
-    if slices::cell(names, 2 * r + 1) == 0 {
+    if slices::cell(names, token::NAME_WIDTH * r + 1) == 0 {
         return 0;
     }
     r as u32 + 1
 }
 
 // The class of each of the first `count` rows of names.
-pub fn name_classes(doc: &[u8], names: &[u32], count: usize, classes: &mut [u32; 1024])
-    requires { ⌜ (count ≤ 1024) × (2 * count ≤ length (now names)) × (length (now doc) ≤ 65536) × (length (now classes) ≡ 1024)
+pub fn name_classes(doc: &[u8], names: &[u32], count: usize, classes: &mut [u32; token::NAME_ROWS])
+    requires { ⌜ (count ≤ 1024) × (nameWidth * count ≤ length (now names)) × (length (now doc) ≤ 65536) × (length (now classes) ≡ 1024)
         × Every (NameFits (length (now doc))) (nameRowsIn count (now names)) ⌝ }
     ensures { λ _. ⌜ Front (nameClasses (now (doc .entry)) (nameRowsIn count (now (names .entry)))) (now (classes .exit))
         × (length (now (classes .exit)) ≡ 1024) ⌝ }
 {
     // The last row of each slot, or 1024, and for each row the one before it in its slot, written before it is read. A first
     // value whose bytes differ is stored by vector instructions, not by memset.
-    let mut slots = [1024u16; 2039];
+    let mut slots = [1024u16; classes::SLOTS];
     let mut chain = [1u16; 1024];
     let mut r: usize = 0;
     while r < count {

@@ -8,17 +8,18 @@ use lib.ListN.{length, getD, drop, drop-of-length-le}
 use lib.Seq.{drop-cons}
 use Rattle.sequences.proofs.Tests.{tests}
 use Rattle.token.specs.Answers.{missing, badNumber, largest}
-use Rattle.number.specs.Number.{Front, spelled, unended, cut, after, front, judged, numberAt, Within}
+use Rattle.number.specs.Number.{NumberFront, spelled, unended, cut, after, front, numberJudged, numberAt}
+use Rattle.number.specs.Bounds.{Within}
 use Rattle.number.specs.declared.Number.the-variants.{Is, Refused}
 use Rattle.number.proofs.Capped.{sum-capped, unit-capped, regrouped}
 
 -- a front read after some bytes that say `sum`, where a one in its first byte counts `unit`
-abbrev pub onto : ℕ → ℕ → ℕ → Front → Front
+abbrev pub onto : ℕ → ℕ → ℕ → NumberFront → NumberFront
 onto sum unit taken (spelled value size) = spelled (sum + value * unit) (taken + size)
 onto sum unit taken unended = unended
 onto sum unit taken cut = cut
 
-onto-after : (sum unit taken b : ℕ) (f : Front) → onto sum unit taken (after b f) ≡ onto (sum + b % 128 * unit) (unit * 128) (suc taken) f
+onto-after : (sum unit taken b : ℕ) (f : NumberFront) → onto sum unit taken (after b f) ≡ onto (sum + b % 128 * unit) (unit * 128) (suc taken) f
 onto-after sum unit taken b (spelled value size) =
     let e = regrouped sum (b % 128) value unit in
     let t : taken + suc size ≡ suc taken + size = omega arith in
@@ -26,7 +27,7 @@ onto-after sum unit taken b (spelled value size) =
 onto-after sum unit taken b unended = refl
 onto-after sum unit taken b cut = refl
 
-onto-nothing : (f : Front) → onto 0 1 0 f ≡ f
+onto-nothing : (f : NumberFront) → onto 0 1 0 f ≡ f
 onto-nothing (spelled value size) =
     let e : 0 + value * 1 ≡ value = omega arith in
     let s : 0 + size ≡ size = omega arith in
@@ -57,7 +58,7 @@ pub record Going (most : ℕ) (doc : List ℕ) (at value scale next left : ℕ) 
   pub sum-kept : value ≡ min sum 2147483648
   pub unit-kept : scale ≡ min unit 34359738368
   pub past : at ≤ next
-  pub same : judged doc at (onto sum unit (next - at) (front left (drop next doc))) ≡ numberAt most doc at
+  pub same : numberJudged doc at (onto sum unit (next - at) (front left (drop next doc))) ≡ numberAt most doc at
 
 pub going-start : (most : ℕ) (doc : List ℕ) (at : ℕ) → Going most doc at 0 1 at most
 unfolding numberAt
@@ -93,7 +94,7 @@ module _ {most : ℕ} {doc : List ℕ} {at value scale next left : ℕ} (g : Goi
       pub grown-is : grown ≡ min (g .sum + b % 128 * g .unit) 2147483648
       grown-is = kept ∙ (rw (g .sum-kept, g .unit-kept) (sum-capped (g .sum) (g .unit) (b % 128) (g .counts)))
 
-      ended : b < 128 → judged doc at (spelled (g .sum + b * g .unit) (next - at + 1)) ≡ numberAt most doc at
+      ended : b < 128 → numberJudged doc at (spelled (g .sum + b * g .unit) (next - at + 1)) ≡ numberAt most doc at
       ended h = rw (here, front-low left b (drop (next + 1) doc) some h) at (g .same)
 
       last-sum : b < 128 → grown ≡ min (g .sum + b * g .unit) 2147483648

@@ -14,7 +14,7 @@ use Rattle.sequences.specs.Lists.{Bytes}
 use Rattle.sequences.proofs.Units.{bytes-first, bytes-rest}
 use Rattle.sequences.proofs.Tests.{tests}
 use Rattle.token.specs.Answers.{badNumber, largest}
-use Rattle.number.specs.Number.{Spelling, low, high, valueOf, Front, spelled, unended, cut, after, front, judged, numberAt, spellIn, shortest, sizeOf}
+use Rattle.number.specs.Number.{Spelling, low, high, valueOf, NumberFront, spelled, unended, cut, after, front, numberJudged, numberAt, spellIn, shortest, sizeOf}
 use Rattle.number.specs.declared.Number.the-variants.{Is, Refused}
 
 -- reading a spelling gives its value and uses its bytes, whatever follows
@@ -40,7 +40,7 @@ value-spelled (suc most) [] b e = absurd (let z : _≡_ {A = ℕ} 0 1 = cc in le
 value-spelled (suc most) (x ∷ l) {value} {size} b e =
     go (ltb x 128) (ltb-true x 128) (ltb-false x 128) (front most l) (λ v n h. value-spelled most l (bytes-rest b) h) refl e
   where
-    go : (t : Bool) → (t ≡ true → x < 128) → (t ≡ false → 128 ≤ x) → (f : Front)
+    go : (t : Bool) → (t ≡ true → x < 128) → (t ≡ false → 128 ≤ x) → (f : NumberFront)
         → ((v n : ℕ) → front most l ≡ spelled v n → Begins most l v n) → front most l ≡ f
         → cond t (spelled x 1) (after x f) ≡ spelled value size → Begins (suc most) (x ∷ l) value size
     go true y n f again h e =
@@ -78,8 +78,8 @@ number-spelled most doc at {value} {next} b e = go (front most (drop at doc)) (�
         (rw (a, s) at r, rw (← a) (leb-true v largest (sym t)), omega arith)
     in-bounds false v n t r e = absurd (let z : _≡_ {A = ℕ} 0 1 = cc in let q : ⊥ = omega arith in q)
 
-    go : (f : Front) → ((v n : ℕ) → front most (drop at doc) ≡ spelled v n → Begins most (drop at doc) v n) → front most (drop at doc) ≡ f
-        → judged doc at f ≡ Is value next → Begins most (drop at doc) value (next - at) × (value ≤ largest) × (at ≤ next)
+    go : (f : NumberFront) → ((v n : ℕ) → front most (drop at doc) ≡ spelled v n → Begins most (drop at doc) v n) → front most (drop at doc) ≡ f
+        → numberJudged doc at f ≡ Is value next → Begins most (drop at doc) value (next - at) × (value ≤ largest) × (at ≤ next)
     go (spelled v n) again h e = in-bounds (leb v largest) v n refl (again v n h) e
     go unended again h e = absurd (let z : _≡_ {A = ℕ} 0 1 = cc in let q : ⊥ = omega arith in q)
     go cut again h e = absurd (let z : _≡_ {A = ℕ} 0 1 = cc in let q : ⊥ = omega arith in q)

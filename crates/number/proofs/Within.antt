@@ -8,17 +8,18 @@ use lib.Dec.{ltb, leb}
 use lib.ListN.{length, drop, length-drop}
 use borrow.Author.Tests.{leb-true}
 use Rattle.token.specs.Answers.{largest, badNumber}
-use Rattle.number.specs.Number.{Front, spelled, unended, cut, after, front, judged, numberAt, Within}
+use Rattle.number.specs.Number.{NumberFront, spelled, unended, cut, after, front, numberJudged, numberAt}
+use Rattle.number.specs.Bounds.{Within}
 use Rattle.number.specs.declared.Number.{Number}
 use Rattle.number.specs.declared.Number.the-variants.{Is, Refused}
 
 -- a spelling has a byte, and no more bytes than there are
-abbrev Fits : ℕ → Front → Type 0
+abbrev Fits : ℕ → NumberFront → Type 0
 Fits n (spelled value size) = (1 ≤ size) × (size ≤ n)
 Fits n unended = Unit
 Fits n cut = Unit
 
-after-fits : (n b : ℕ) (f : Front) → Fits n f → Fits (suc n) (after b f)
+after-fits : (n b : ℕ) (f : NumberFront) → Fits n f → Fits (suc n) (after b f)
 after-fits n b (spelled value size) h = omega arith
 after-fits n b unended h = tt
 after-fits n b cut h = tt
@@ -42,7 +43,7 @@ number-within most doc at = go (front most (drop at doc)) (front-fits most (drop
     in-bounds true value size t h = let d = length-drop at doc in (omega arith, omega arith, leb-true value largest (sym t))
     in-bounds false value size t h = tt
 
-    go : (f : Front) → Fits (length (drop at doc)) f → Within (length doc) at (judged doc at f)
+    go : (f : NumberFront) → Fits (length (drop at doc)) f → Within (length doc) at (numberJudged doc at f)
     go (spelled value size) h = in-bounds (leb value largest) value size refl h
     go unended h = tt
     go cut h = tt

@@ -20,39 +20,34 @@ valueOf [] = 0
 valueOf (b ∷ s) = b % 128 + 128 * valueOf s
 
 -- what stands at the front of some bytes
-pub data Front : Type 0 where
+pub data NumberFront : Type 0 where
   -- a spelling: its value, and how many bytes it has
-  spelled : ℕ → ℕ → Front
+  spelled : ℕ → ℕ → NumberFront
   -- as many bytes as are allowed, and none below 80 hex
-  unended : Front
+  unended : NumberFront
   -- no byte below 80 hex, and fewer bytes than are allowed
-  cut : Front
+  cut : NumberFront
 
-abbrev pub after : ℕ → Front → Front
+abbrev pub after : ℕ → NumberFront → NumberFront
 after b (spelled value size) = spelled (b % 128 + 128 * value) (suc size)
 after b unended = unended
 after b cut = cut
 
 -- of at most so many bytes
-unfoldable pub front : ℕ → List ℕ → Front
+unfoldable pub front : ℕ → List ℕ → NumberFront
 front zero l = unended
 front (suc most) [] = cut
 front (suc most) (b ∷ l) = cond (ltb b 128) (spelled b 1) (after b (front most l))
 
--- 01: a value over 2,147,483,647 is judged when the number has ended; the place of 4 is the number's first byte
-abbrev pub judged : List ℕ → ℕ → Front → Number
-judged doc at (spelled value size) = cond (leb value largest) (Is value (at + size)) (Refused badNumber at)
-judged doc at unended = Refused badNumber at
-judged doc at cut = Refused missing (length doc)
+-- 01: a value over 2,147,483,647 is numberJudged when the number has ended; the place of 4 is the number's first byte
+abbrev pub numberJudged : List ℕ → ℕ → NumberFront → Number
+numberJudged doc at (spelled value size) = cond (leb value largest) (Is value (at + size)) (Refused badNumber at)
+numberJudged doc at unended = Refused badNumber at
+numberJudged doc at cut = Refused missing (length doc)
 
 -- the number of at most `most` bytes at a place of a document: its value and the place after it, or the refusal
 unfoldable pub numberAt : ℕ → List ℕ → ℕ → Number
-numberAt most doc at = judged doc at (front most (drop at doc))
-
--- bounds that a caller needs
-abbrev pub Within : ℕ → ℕ → Number → Type 0
-Within size at (Is value next) = (at < next) × (next ≤ size) × (value ≤ largest)
-Within size at (Refused number place) = Unit
+numberAt most doc at = numberJudged doc at (front most (drop at doc))
 
 -- the shortest spelling of a value up to 2,147,483,647, in at most five bytes
 unfoldable pub spellIn : ℕ → ℕ → List ℕ

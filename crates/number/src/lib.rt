@@ -3,17 +3,12 @@
 ghost use mathlib.Core.Path.{_≡_};
 ghost use Prim.Native.Nat.{_+_, _*_, _≤_, _<_, min};
 ghost use lib.ListN.{length};
-ghost use Rattle.number.specs.Number.{numberAt, Within, sizeOf};
+ghost use Rattle.number.specs.Number.{numberAt, sizeOf};
+ghost use Rattle.number.specs.Bounds.{Within};
 
 pub enum Number {
     Is { value: usize, next: usize },
     Refused { number: u32, place: usize },
-}
-
-fn wide(b: u8) -> usize
-    ensures { λ r. ⌜ r ≡ b ⌝ }
-{
-    b as usize
 }
 
 // The value with seven bits more, or one past the largest value where it is over that: so no length of a number wraps.
@@ -60,7 +55,7 @@ pub fn read(doc: &[u8], at: usize, most: usize) -> Number
                 place: doc.len(),
             };
         }
-        let b = wide(doc[next]);
+        let b = slices::wide_place(doc[next]);
         value = grown(value, scale, b % 128);
         next += 1;
         if b < 128 {

@@ -1,4 +1,4 @@
--- Units written from the last to the first: what the functions of this crate hand to each other.
+-- Serves the code. Units written from the last to the first: what the functions of this crate hand to each other.
 use Prim.Native.Nat.{ℕ, _+_, _*_, _/_, _^_}
 use mathlib.Core.Path.{_≡_}
 use mathlib.Core.List.{List, _∷_, _++_}
@@ -6,7 +6,7 @@ use lib.ListN.{length, drop}
 use Rattle.sequences.specs.Lists.{bytesOf}
 use Rattle.chunks.specs.declared.Chunks.{Chunks}
 use Rattle.numeral.specs.Numeral.{fraction}
-use Rattle.chunks.specs.Chunks.{valueOf, Chunked}
+use Rattle.chunks.specs.Chunks.{chunksValue, Chunked}
 
 -- one unit below 256 was put at place `at`, counted in units, and all that stands after it is as it was
 pub record UnitPut (before after : List ℕ) (at unit : ℕ) : Type 0 where
@@ -27,6 +27,6 @@ pub record Ends (small units : List ℕ) (at : ℕ) : Type 0 where
 
 -- the fraction of n stands at the end, from place `at` on, and `above` is what stands before the point
 pub record FractionPut (small : List ℕ) (n : Chunks) (scale : ℕ) (above : Chunks) (at : ℕ) : Type 0 where
-  pub ends : Ends small (fraction scale (valueOf n)) at
-  pub value-is : valueOf above ≡ valueOf n / 10 ^ scale
+  pub ends : Ends small (fraction scale (chunksValue n)) at
+  pub value-is : chunksValue above ≡ chunksValue n / 10 ^ scale
   pub chunked : Chunked above

@@ -6,7 +6,7 @@ ghost use lib.ListN.{length, drop};
 ghost use lib.Dec.{eqb};
 ghost use Rattle.sequences.specs.Lists.{overlay};
 ghost use Rattle.numeral.specs.Numeral.{digits, numeral, truth};
-ghost use Rattle.chunks.specs.Chunks.{valueOf, Chunked};
+ghost use Rattle.chunks.specs.Chunks.{chunksValue, Chunked};
 ghost use Rattle.numeral.specs.Puts.{UnitPut, UnitsPut, Ends, FractionPut};
 use chunks::Chunks;
 
@@ -19,7 +19,7 @@ struct Unwritten {
 // The number without its last digit. When the lowest chunk has no other digit, the chunks above it move down.
 fn tenth(n: Chunks) -> Chunks
     requires { ⌜ Chunked n ⌝ }
-    ensures { λ r. ⌜ (valueOf r ≡ valueOf n / 10) × Chunked r ⌝ }
+    ensures { λ r. ⌜ (chunksValue r ≡ chunksValue n / 10) × Chunked r ⌝ }
 {
     if n.left == 1 {
         Chunks {
@@ -41,7 +41,7 @@ fn tenth(n: Chunks) -> Chunks
 // The unit of the last digit.
 fn digit(n: Chunks) -> u8
     requires { ⌜ Chunked n ⌝ }
-    ensures { λ r. ⌜ r ≡ 48 + valueOf n % 10 ⌝ }
+    ensures { λ r. ⌜ r ≡ 48 + chunksValue n % 10 ⌝ }
 {
     48 + (n.low % 10) as u8
 }
@@ -49,7 +49,7 @@ fn digit(n: Chunks) -> u8
 // Whether the number is 0.
 fn is_zero(n: Chunks) -> bool
     requires { ⌜ Chunked n ⌝ }
-    ensures { λ r. ⌜ r ≡ eqb (valueOf n) 0 ⌝ }
+    ensures { λ r. ⌜ r ≡ eqb (chunksValue n) 0 ⌝ }
 {
     if n.low == 0 {
         if n.mid == 0 {
@@ -92,8 +92,8 @@ fn put_fraction(n: Chunks, scale: usize, small: &mut [u8; 82]) -> Unwritten
 
 // Puts all digits of n, so that they end before unit `end`; gives the unit at which they begin.
 fn put_chunks(n: Chunks, end: usize, small: &mut [u8; 82]) -> usize
-    requires { ⌜ Chunked n × (2 ≤ end) × (end ≤ 41) × (valueOf n < 10 ^ (end - 1)) × (length (now small) ≡ 82) ⌝ }
-    ensures { λ r. ⌜ UnitsPut (now (small .entry)) (now (small .exit)) (digits (valueOf n)) end r × (1 ≤ r) ⌝ }
+    requires { ⌜ Chunked n × (2 ≤ end) × (end ≤ 41) × (chunksValue n < 10 ^ (end - 1)) × (length (now small) ≡ 82) ⌝ }
+    ensures { λ r. ⌜ UnitsPut (now (small .entry)) (now (small .exit)) (digits (chunksValue n)) end r × (1 ≤ r) ⌝ }
 {
     let mut at = end;
     let mut v = n;
@@ -128,8 +128,8 @@ fn put_word(n: u64, end: usize, small: &mut [u8; 82]) -> usize
 
 // The same for any number, by the shorter of the two ways.
 fn put_whole(n: Chunks, end: usize, small: &mut [u8; 82]) -> usize
-    requires { ⌜ Chunked n × (2 ≤ end) × (end ≤ 41) × (valueOf n < 10 ^ (end - 1)) × (length (now small) ≡ 82) ⌝ }
-    ensures { λ r. ⌜ UnitsPut (now (small .entry)) (now (small .exit)) (digits (valueOf n)) end r × (1 ≤ r) ⌝ }
+    requires { ⌜ Chunked n × (2 ≤ end) × (end ≤ 41) × (chunksValue n < 10 ^ (end - 1)) × (length (now small) ≡ 82) ⌝ }
+    ensures { λ r. ⌜ UnitsPut (now (small .entry)) (now (small .exit)) (digits (chunksValue n)) end r × (1 ≤ r) ⌝ }
 {
     if n.mid == 0 {
         if n.high == 0 {
@@ -141,8 +141,8 @@ fn put_whole(n: Chunks, end: usize, small: &mut [u8; 82]) -> usize
 
 // Puts the text of n / 10^scale, below zero where `minus` says so, at the end of small; gives the unit at which it begins.
 pub fn render(minus: bool, n: Chunks, scale: usize, small: &mut [u8; 82]) -> usize
-    requires { ⌜ Chunked n × (scale ≤ 38) × (valueOf n < 10 ^ 39) × (length (now small) ≡ 82) ⌝ }
-    ensures { λ r. ⌜ Ends (now (small .exit)) (numeral minus (valueOf n) scale) r ⌝ }
+    requires { ⌜ Chunked n × (scale ≤ 38) × (chunksValue n < 10 ^ 39) × (length (now small) ≡ 82) ⌝ }
+    ensures { λ r. ⌜ Ends (now (small .exit)) (numeral minus (chunksValue n) scale) r ⌝ }
 {
     let above = put_fraction(n, scale, small);
     let at = put_whole(above.number, above.end, small);

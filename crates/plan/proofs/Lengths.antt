@@ -16,16 +16,14 @@ use Rattle.token.specs.Answers.{longest}
 use Rattle.token.specs.Tokens.{shapeOf}
 use Rattle.rules.specs.Rules.{lawful}
 use Rattle.numeral.specs.Numeral.{truth}
-use Rattle.chunks.specs.Chunks.{wordSize, valueOf}
+use Rattle.chunks.specs.Chunks.{wordSize}
 use Rattle.numeral.proofs.Facts.{at-most-41}
 use Rattle.hexadecimal.proofs.Hex.{length-hex}
 use Rattle.base64.proofs.Base64.{length-base64}
 use Rattle.plan.specs.declared.Kind.{Kind}
 use Rattle.plan.specs.declared.Kind.the-variants.{Unshown, Same, Signed, Unsigned, Truth, Decimal, Hex, Base64}
 use Rattle.plan.specs.Text.{kindOf, signedText, shown, textOf}
-use Rattle.plan.specs.declared.Plan.{Plan}
-use Rattle.plan.specs.declared.Plan.the-variants.{Nothing, Payload, Number, Boolean, HexDigits, Base64Letters}
-use Rattle.plan.specs.Plans.{Ruled, unitsBy, NumberFits, PayloadFits}
+use Rattle.plan.specs.Plans.{Ruled}
 use Rattle.plan.specs.Lengths.{Long}
 use Rattle.plan.proofs.Rules.{never, ruled, decimal-sized}
 use Rattle.plan.proofs.Plans.{word-small, units-length}
@@ -110,12 +108,3 @@ long-short Base64 size units h = omega arith
 -- a bound for every text
 pub text-short : (token : ℕ) (p units : List ℕ) → Bytes p → textOf token p ≡ some units → length units ≤ 41 + 2 * length p
 text-short token p units b e = long-short (kindOf token) (length p) (length units) (text-length token p units b e)
-
--- the same bound for the units that a plan stands for
-pub plan-short : (plan : Plan) (p : List ℕ) → NumberFits plan → PayloadFits plan p → length (unitsBy plan p) ≤ 41 + 2 * length p
-plan-short Nothing p n f = omega arith
-plan-short Payload p n f = omega arith
-plan-short (Number minus size scale) p n f = let h = at-most-41 minus (valueOf size) scale (n .2) (n .1) in omega arith
-plan-short (Boolean b) p n f = let h = truth-short b in omega arith
-plan-short HexDigits p n f = let h = length-hex p in omega arith
-plan-short Base64Letters p n f = let h = length-base64 p in omega arith

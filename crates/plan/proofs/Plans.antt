@@ -15,7 +15,7 @@ use Rattle.token.specs.Tokens.{shapeOf}
 use Rattle.token.specs.declared.Shape.{Shape}
 use Rattle.rules.specs.Rules.{decimalLawful, lawful}
 use Rattle.chunks.specs.declared.Chunks.{Chunks}
-use Rattle.chunks.specs.Chunks.{wordSize, valueOf, Chunked}
+use Rattle.chunks.specs.Chunks.{wordSize, chunksValue, Chunked}
 use Rattle.chunks.proofs.Words.{size-within}
 use Rattle.plan.specs.declared.Kind.{Kind}
 use Rattle.plan.specs.declared.Kind.the-variants.{Unshown, Same, Signed, Unsigned, Truth, Decimal, Hex, Base64}
@@ -41,12 +41,12 @@ half-sub half v w e h = omega arith
 
 module _ (p : List ℕ) (scale : ℕ) (n : Chunks) {v half : ℕ} (g : Chunked n) (k : Ruled (Signed scale) p)
     (e : v ≡ little p) (f : v < 256 ^ length p) (d : half + half ≡ 256 ^ length p) where
-  pub signed-minus : half ≤ v → valueOf n ≡ half - (v - half) → Means (shown (Signed scale) p) false p (Number true n scale)
+  pub signed-minus : half ≤ v → chunksValue n ≡ half - (v - half) → Means (shown (Signed scale) p) false p (Number true n scale)
   unfolding shown signedText
   signed-minus h x =
       let z : 256 ^ length p / 2 ≡ half = omega arith in
-      let y : valueOf n ≡ 256 ^ length p - v = omega arith in
-      let q : valueOf n ≤ 256 ^ length p = omega arith in
+      let y : chunksValue n ≡ 256 ^ length p - v = omega arith in
+      let q : chunksValue n ≤ 256 ^ length p = omega arith in
       record {
         text-is = simp (tests, z, ← e, h, y);
         own-is = refl;
@@ -54,11 +54,11 @@ module _ (p : List ℕ) (scale : ℕ) (n : Chunks) {v half : ℕ} (g : Chunked n
         payload-fits = tt;
       }
 
-  pub signed-plus : v < half → valueOf n ≡ v → Means (shown (Signed scale) p) false p (Number false n scale)
+  pub signed-plus : v < half → chunksValue n ≡ v → Means (shown (Signed scale) p) false p (Number false n scale)
   unfolding shown signedText
   signed-plus h x =
       let z : 256 ^ length p / 2 ≡ half = omega arith in
-      let q : valueOf n ≤ 256 ^ length p = omega arith in
+      let q : chunksValue n ≤ 256 ^ length p = omega arith in
       record {
         text-is = simp (tests, z, ← e, h, x);
         own-is = refl;
@@ -67,10 +67,10 @@ module _ (p : List ℕ) (scale : ℕ) (n : Chunks) {v half : ℕ} (g : Chunked n
       }
 
 pub unsigned-is : (p : List ℕ) (n : Chunks) {v : ℕ} → Chunked n → Ruled Unsigned p → v ≡ little p → v < 256 ^ length p
-    → valueOf n ≡ v → Means (shown Unsigned p) false p (Number false n 0)
+    → chunksValue n ≡ v → Means (shown Unsigned p) false p (Number false n 0)
 unfolding shown
 unsigned-is p n {v} g k e f x =
-    let q : valueOf n ≤ 256 ^ length p = omega arith in
+    let q : chunksValue n ≤ 256 ^ length p = omega arith in
     record {
       text-is = simp (← e, x);
       own-is = refl;
@@ -84,7 +84,7 @@ pub boolean-is : (p : List ℕ) → Means (shown Truth p) false p (Boolean (not 
 unfolding shown
 boolean-is p = record { text-is = refl; own-is = refl; number-fits = tt; payload-fits = tt }
 
-pub decimal-is : (p : List ℕ) (n : Chunks) → decimalLawful p ≡ true → valueOf n ≡ little (drop 3 p) → Chunked n → valueOf n < 10 ^ 39
+pub decimal-is : (p : List ℕ) (n : Chunks) → decimalLawful p ≡ true → chunksValue n ≡ little (drop 3 p) → Chunked n → chunksValue n < 10 ^ 39
     → Means (shown Decimal p) false p (Number (eqb (getD p 2 0) 0) n (getD p 1 0))
 unfolding shown
 decimal-is p n h e g b =

@@ -1,4 +1,4 @@
--- How many units a text has, from its kind and the size of its payload (01, "Text of a value").
+-- Serves the code. How many units a text has, from its kind and the size of its payload (01, "Text of a value").
 use Prim.Native.Nat.{ℕ, _+_, _*_, _/_, _≤_}
 use mathlib.Core.Path.{_≡_}
 use Rattle.plan.specs.declared.Kind.{Kind}

@@ -1,4 +1,5 @@
--- What the code finds out about a value before it writes: a plan, from which the text is written whole or read unit by unit.
+-- Serves the code. What the code finds out about a value before it writes: a plan, from which the text is written whole or read
+-- unit by unit.
 use Prim.Native.Nat.{ℕ, _*_, _%_, _^_, _≤_, _<_}
 use mathlib.Core.Path.{_≡_}
 use mathlib.Core.Bool.{Bool, true, false}
@@ -9,7 +10,7 @@ use Rattle.sequences.specs.Lists.{unitsOf}
 use Rattle.token.specs.Answers.{longest}
 use Rattle.rules.specs.Rules.{decimalLawful}
 use Rattle.numeral.specs.Numeral.{numeral, truth}
-use Rattle.chunks.specs.Chunks.{wordSize, valueOf, Chunked}
+use Rattle.chunks.specs.Chunks.{wordSize, chunksValue, Chunked}
 use Rattle.hexadecimal.specs.Hexadecimal.{hex}
 use Rattle.base64.specs.Base64.{base64}
 use Rattle.plan.specs.declared.Kind.{Kind}
@@ -32,7 +33,7 @@ Ruled Base64 p = Unit
 abbrev pub unitsBy : Plan → List ℕ → List ℕ
 unitsBy Nothing p = []
 unitsBy Payload p = unitsOf p
-unitsBy (Number minus size scale) p = numeral minus (valueOf size) scale
+unitsBy (Number minus size scale) p = numeral minus (chunksValue size) scale
 unitsBy (Boolean b) p = truth b
 unitsBy HexDigits p = hex p
 unitsBy Base64Letters p = base64 p
@@ -59,7 +60,7 @@ OwnBy Base64Letters own = own ≡ false
 abbrev pub NumberFits : Plan → Type 0
 NumberFits Nothing = Unit
 NumberFits Payload = Unit
-NumberFits (Number minus size scale) = Chunked size × (scale ≤ 38) × (valueOf size < 10 ^ 39)
+NumberFits (Number minus size scale) = Chunked size × (scale ≤ 38) × (chunksValue size < 10 ^ 39)
 NumberFits (Boolean b) = Unit
 NumberFits HexDigits = Unit
 NumberFits Base64Letters = Unit

@@ -10,7 +10,7 @@ use Rattle.meaning.specs.Pairs.{Pair, pair}
 use Rattle.print_lines.specs.Lines.{line}
 use Rattle.machine.specs.Machine.{reading}
 use Rattle.machine.specs.Examples.{full}
-use Rattle.lister_contract.specs.Contract.{answerOf, pairsIn}
+use Rattle.lister_contract.specs.Contract.{listAnswer, pairsIn}
 use Rattle.print_listing.specs.Printed.{recordsWord, pairsWord, pairLines, answerLines, printed}
 
 -- ---- where a number ends
@@ -105,9 +105,9 @@ pairs-told (p ∷ ps) (q ∷ qs) e =
     cc
 
 -- demand 3: where neither is refused, two documents for which the same text is printed have as many records and the same pairs
-pub printed-tells : (d e : List ℕ) → answerOf d (reading d full) 8192 .number ≡ 0 → answerOf e (reading e full) 8192 .number ≡ 0
+pub printed-tells : (d e : List ℕ) → listAnswer d (reading d full) 8192 .number ≡ 0 → listAnswer e (reading e full) 8192 .number ≡ 0
     → printed d ≡ printed e
-    → (answerOf d (reading d full) 8192 .records ≡ answerOf e (reading e full) 8192 .records) × (pairsIn d (reading d full) ≡ pairsIn e (reading e full))
+    → (listAnswer d (reading d full) 8192 .records ≡ listAnswer e (reading e full) 8192 .records) × (pairsIn d (reading d full) ≡ pairsIn e (reading e full))
 unfolding printed answerLines
 printed-tells d e h k p =
     let f = rw (h, k) at p in

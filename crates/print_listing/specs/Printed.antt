@@ -12,7 +12,7 @@ use Rattle.machine.specs.Machine.{reading}
 use Rattle.machine.specs.Examples.{full}
 use Rattle.meaning.specs.Pairs.{Pair, pair}
 use Rattle.lister_contract.specs.declared.Answer.{Answer}
-use Rattle.lister_contract.specs.Contract.{answerOf, pairsIn, listOf}
+use Rattle.lister_contract.specs.Contract.{listAnswer, pairsIn, listOf}
 
 -- "records ", " pairs "
 abbrev pub recordsWord : List ℕ
@@ -33,7 +33,7 @@ answerLines a ps =
 
 -- tables at the full bounds, and a list of 8,192 pairs
 unfoldable pub printed : List ℕ → List ℕ
-printed doc = answerLines (answerOf doc (reading doc full) 8192) (pairsIn doc (reading doc full))
+printed doc = answerLines (listAnswer doc (reading doc full) 8192) (pairsIn doc (reading doc full))
 
 -- ---- the pairs as numbers
 
@@ -44,5 +44,5 @@ pairRows (suc n) l = pair (getD l 0 0) (getD l 1 0) ∷ pairRows n (drop 2 l)
 
 -- listing with tables at the full bounds: the answer, and the list afterwards
 pub record FullListed (doc list list′ : List ℕ) (a : Answer) : Type 0 where
-  pub answer-is : a ≡ answerOf doc (reading doc full) 8192
+  pub answer-is : a ≡ listAnswer doc (reading doc full) 8192
   pub list-is : list′ ≡ listOf doc (reading doc full) list

@@ -8,6 +8,9 @@ ghost use Rattle.print_lines.specs.Lines.{PutBefore};
 ghost use Rattle.print_listing.specs.Printed.{pairLines, printed, pairRows, FullListed};
 use lister_contract::Answer;
 
+// The bytes of the longest text that is printed.
+pub const PRINTED: usize = 180280;
+
 // A line for each of the first `count` pairs of a list, at the end of the text.
 fn put_pairs(text: &mut [u8], pairs: &[u32], count: usize) -> usize
     requires { ⌜ (2 * count ≤ length (now pairs)) × (56 + 22 * count ≤ length (now text)) ⌝ }
@@ -29,9 +32,9 @@ fn list_full(doc: &[u8], pairs: &mut [u32]) -> Answer
     requires { ⌜ length (now pairs) ≡ 16384 ⌝ }
     ensures { λ r. ⌜ FullListed (now (doc .entry)) (now (pairs .entry)) (now (pairs .exit)) r ⌝ }
 {
-    let mut names = [0u32; 2048];
-    let mut qnames = [0u32; 3072];
-    let mut events = [0u32; 16384];
+    let mut names = [0u32; token::NAME_TABLE];
+    let mut qnames = [0u32; token::QNAME_TABLE];
+    let mut events = [0u32; token::EVENT_TABLE];
     lister::list(doc, &mut names, &mut qnames, &mut events, pairs)
 }
 

@@ -6,7 +6,7 @@ use Rattle.sequences.proofs.Tests.{tests}
 use Rattle.machine.specs.declared.Answer.{Answer}
 use Rattle.print_lines.specs.Lines.{PutBefore, field, acceptedWord, refusedWord, atWord}
 use Rattle.print_lines.proofs.Laws.{both-put}
-use Rattle.print_reading.specs.Report.{namesWord, qnamesWord, eventsWord, versionWord, verdict, counts}
+use Rattle.print_reading.specs.Printed.{namesWord, qnamesWord, eventsWord, versionWord, verdict, counts}
 
 pub verdict-accepted : (a : Answer) {t t′ : List ℕ} {end at : ℕ} → a .number ≡ 0 → PutBefore t t′ end at (field acceptedWord (a .place)) → PutBefore t t′ end at (verdict a)
 unfolding verdict

@@ -7,13 +7,13 @@ use lib.ListN.{length, take}
 use Rattle.machine.specs.Machine.{reading}
 use Rattle.machine.specs.Contract.{roomIn, Reads}
 use Rattle.machine.specs.Examples.{full}
+use Rattle.machine.specs.Tables.{nameRowsIn, qnameRowsIn, eventRowsIn}
 use Rattle.machine.specs.declared.Answer.{Answer}
-use Rattle.classes.specs.Tables.{nameRowsIn, qnameRowsIn, eventRowsIn}
 use Rattle.filled.proofs.Rooms.{rows-few}
 use Rattle.filled.proofs.Filled.{names-read, qnames-read, events-read, names-back, qnames-back, events-back}
 use Rattle.print_lines.specs.Lines.{PutBefore}
 use Rattle.print_lines.proofs.Laws.{both-put, whole-put}
-use Rattle.print_reading.specs.Report.{verdict, counts, answerLine, printed}
+use Rattle.print_reading.specs.Printed.{verdict, counts, answerLine, printed}
 use Rattle.print_rows.specs.Rows.{rowLines}
 
 pub answer-put : (a : Answer) {t t₁ t₂ : List ℕ} {end mid at : ℕ} → PutBefore t t₁ end mid (counts (a .names) (a .qnames) (a .events) (a .version))

@@ -4,8 +4,11 @@ ghost use mathlib.Core.List.{_++_};
 ghost use Prim.Native.Nat.{_+_, _≤_};
 ghost use lib.ListN.{length, take};
 ghost use Rattle.print_lines.specs.Lines.{PutBefore};
-ghost use Rattle.print_reading.specs.Report.{verdict, counts, answerLine, printed};
+ghost use Rattle.print_reading.specs.Printed.{verdict, counts, answerLine, printed};
 use machine::Answer;
+
+// The bytes of the longest text that is printed.
+pub const PRINTED: usize = 239771;
 
 // ---- the first line
 
@@ -57,9 +60,9 @@ pub fn print(doc: &[u8], text: &mut [u8]) -> usize
     requires { ⌜ length (now text) ≡ 239771 ⌝ }
     ensures { λ r. ⌜ (now (text .exit) ≡ take r (now (text .entry)) ++ printed (now (doc .entry))) × (r ≤ 239771) ⌝ }
 {
-    let mut names = [0u32; 2048];
-    let mut qnames = [0u32; 3072];
-    let mut events = [0u32; 16384];
+    let mut names = [0u32; token::NAME_TABLE];
+    let mut qnames = [0u32; token::QNAME_TABLE];
+    let mut events = [0u32; token::EVENT_TABLE];
     let a = reader::read(doc, &mut names, &mut qnames, &mut events);
     let end = print_rows::put_rows(text, &names, &qnames, &events, a.names, a.qnames, a.events);
     put_answer(text, end, a)

@@ -6,10 +6,11 @@ use native.Mathlib.Omega.{arith}
 use lib.ListN.{length, getD, take, drop, length-drop}
 use lib.Seq.{getD-drop, drop-drop, drop-cons}
 use Rattle.sequences.specs.Lists.{part}
-use Rattle.classes.specs.Tables.{nameRowsIn, qnameRowsIn, eventRowsIn}
+use Rattle.machine.specs.Tables.{nameRowsIn, qnameRowsIn, eventRowsIn}
 use Rattle.print_lines.specs.Lines.{PutBefore, field}
 use Rattle.print_lines.proofs.Laws.{none-put, both-put}
 use Rattle.print_rows.specs.Rows.{numbers, rowLine, nameWord, qnameWord, eventWord, tokenDigits, nameLines, qnameLines, eventLines}
+use Rattle.token.specs.Answers.{qnameWidth, eventWidth}
 
 -- ---- a loop that puts the lines of one row after the other
 
@@ -77,10 +78,10 @@ abbrev pub namesFrom : List ℕ → ℕ → ℕ → List ℕ
 namesFrom names rows k = nameLines (nameRowsIn (rows - k) (drop (2 * k) names))
 
 abbrev pub qnamesFrom : List ℕ → ℕ → ℕ → List ℕ
-qnamesFrom qnames rows k = qnameLines (qnameRowsIn (rows - k) (drop (3 * k) qnames))
+qnamesFrom qnames rows k = qnameLines (qnameRowsIn (rows - k) (drop (qnameWidth * k) qnames))
 
 abbrev pub eventsFrom : List ℕ → ℕ → ℕ → List ℕ
-eventsFrom events rows k = eventLines (eventRowsIn (rows - k) (drop (4 * k) events))
+eventsFrom events rows k = eventLines (eventRowsIn (rows - k) (drop (eventWidth * k) events))
 
 module _ (table : List ℕ) (rows : ℕ) where
   pub names-none : namesFrom table rows rows ≡ []
@@ -117,22 +118,22 @@ module _ (table : List ℕ) (rows : ℕ) where
         let rest : drop 2 (drop (2 * (k - 1)) table) ≡ drop (2 * k) table = rw (drop-drop, d) refl in
         rw (one-more rows k more few, t, rest)
 
-    pub qnames-next : 3 * rows ≤ length table → (qnameWord ++ rowLine [] (part table (3 * (k - 1)) 3)) ++ qnamesFrom table rows k ≡ qnamesFrom table rows (k - 1)
+    pub qnames-next : qnameWidth * rows ≤ length table → (qnameWord ++ rowLine [] (part table (qnameWidth * (k - 1)) 3)) ++ qnamesFrom table rows k ≡ qnamesFrom table rows (k - 1)
     unfolding qnameLines
     qnames-next h =
-        let t = take-three (drop (3 * (k - 1)) table) (rw length-drop (omega arith)) in
-        let d : 3 * (k - 1) + 3 ≡ 3 * k = omega arith in
-        let rest : drop 3 (drop (3 * (k - 1)) table) ≡ drop (3 * k) table = rw (drop-drop, d) refl in
+        let t = take-three (drop (qnameWidth * (k - 1)) table) (rw length-drop (omega arith)) in
+        let d : qnameWidth * (k - 1) + 3 ≡ qnameWidth * k = omega arith in
+        let rest : drop 3 (drop (qnameWidth * (k - 1)) table) ≡ drop (qnameWidth * k) table = rw (drop-drop, d) refl in
         rw (one-more rows k more few, t, rest)
 
-    pub events-next : {token : ℕ} → 4 * rows ≤ length table → token ≡ getD table (4 * (k - 1)) 0
-        → ((eventWord ++ tokenDigits token) ++ rowLine [] (part table (4 * (k - 1) + 1) 3)) ++ eventsFrom table rows k ≡ eventsFrom table rows (k - 1)
+    pub events-next : {token : ℕ} → eventWidth * rows ≤ length table → token ≡ getD table (eventWidth * (k - 1)) 0
+        → ((eventWord ++ tokenDigits token) ++ rowLine [] (part table (eventWidth * (k - 1) + 1) 3)) ++ eventsFrom table rows k ≡ eventsFrom table rows (k - 1)
     unfolding eventLines
     events-next {token} h e =
-        let j = 4 * (k - 1) in
+        let j = eventWidth * (k - 1) in
         let t = take-three (drop (j + 1) table) (rw length-drop (omega arith)) in
-        let d : j + 4 ≡ 4 * k = omega arith in
-        let rest : drop 4 (drop j table) ≡ drop (4 * k) table = rw (drop-drop, d) refl in
+        let d : j + 4 ≡ eventWidth * k = omega arith in
+        let rest : drop 4 (drop j table) ≡ drop (eventWidth * k) table = rw (drop-drop, d) refl in
         let a0 : getD (drop j table) 0 0 ≡ token = rest-at table j 0 j (omega arith) ∙ sym e in
         let a1 = rest-at table j 1 (j + 1) refl ∙ sym (rest-at table (j + 1) 0 (j + 1) (omega arith)) in
         let a2 = rest-at table j 2 (j + 2) refl ∙ sym (rest-at table (j + 1) 1 (j + 2) (omega arith)) in

@@ -4,9 +4,10 @@ ghost use mathlib.Core.List.{[], _++_};
 ghost use Prim.Native.Nat.{_+_, _*_, _≤_, _<_};
 ghost use lib.ListN.{length};
 ghost use Rattle.sequences.specs.Lists.{part};
-ghost use Rattle.classes.specs.Tables.{nameRowsIn, qnameRowsIn, eventRowsIn};
+ghost use Rattle.machine.specs.Tables.{nameRowsIn, qnameRowsIn, eventRowsIn};
 ghost use Rattle.print_lines.specs.Lines.{PutBefore};
 ghost use Rattle.print_rows.specs.Rows.{rowLine, tokenDigits, eventWord, nameLines, qnameLines, eventLines, rowLines};
+ghost use Rattle.token.specs.Answers.{nameWidth, qnameWidth, eventWidth};
 
 // ---- rows
 
@@ -26,14 +27,14 @@ fn put_numbers(text: &mut [u8], end: usize, table: &[u32], from: usize, count: u
 
 // A line for each of the first `rows` rows of a table of names.
 fn put_names(text: &mut [u8], end: usize, names: &[u32], rows: usize) -> usize
-    requires { ⌜ (2 * rows ≤ length (now names)) × (rows ≤ 1024) × (155 + 27 * rows ≤ end) × (end ≤ length (now text)) ⌝ }
+    requires { ⌜ (nameWidth * rows ≤ length (now names)) × (rows ≤ 1024) × (155 + 27 * rows ≤ end) × (end ≤ length (now text)) ⌝ }
     ensures { λ r. ⌜ PutBefore (now (text .entry)) (now (text .exit)) end r (nameLines (nameRowsIn rows (now (names .entry)))) × (155 ≤ r) ⌝ }
 {
     let mut at = end;
     let mut k = rows;
     while 0 < k {
         k -= 1;
-        at = put_numbers(text, at, names, 2 * k, 2);
+        at = put_numbers(text, at, names, token::NAME_WIDTH * k, 2);
         at = print_lines::put_word(text, at, b"name");
     }
     at
@@ -41,14 +42,14 @@ fn put_names(text: &mut [u8], end: usize, names: &[u32], rows: usize) -> usize
 
 // A line for each of the first `rows` rows of a table of qnames.
 fn put_qnames(text: &mut [u8], end: usize, qnames: &[u32], rows: usize) -> usize
-    requires { ⌜ (3 * rows ≤ length (now qnames)) × (rows ≤ 1024) × (27803 + 39 * rows ≤ end) × (end ≤ length (now text)) ⌝ }
+    requires { ⌜ (qnameWidth * rows ≤ length (now qnames)) × (rows ≤ 1024) × (27803 + 39 * rows ≤ end) × (end ≤ length (now text)) ⌝ }
     ensures { λ r. ⌜ PutBefore (now (text .entry)) (now (text .exit)) end r (qnameLines (qnameRowsIn rows (now (qnames .entry)))) × (27803 ≤ r) ⌝ }
 {
     let mut at = end;
     let mut k = rows;
     while 0 < k {
         k -= 1;
-        at = put_numbers(text, at, qnames, 3 * k, 3);
+        at = put_numbers(text, at, qnames, token::QNAME_WIDTH * k, 3);
         at = print_lines::put_word(text, at, b"qname");
     }
     at
@@ -66,15 +67,15 @@ fn put_token(text: &mut [u8], end: usize, token: usize) -> usize
 
 // A line for each of the first `rows` rows of a table of events.
 fn put_events(text: &mut [u8], end: usize, events: &[u32], rows: usize) -> usize
-    requires { ⌜ (4 * rows ≤ length (now events)) × (rows ≤ 4096) × (67739 + 42 * rows ≤ end) × (end ≤ length (now text)) ⌝ }
+    requires { ⌜ (eventWidth * rows ≤ length (now events)) × (rows ≤ 4096) × (67739 + 42 * rows ≤ end) × (end ≤ length (now text)) ⌝ }
     ensures { λ r. ⌜ PutBefore (now (text .entry)) (now (text .exit)) end r (eventLines (eventRowsIn rows (now (events .entry)))) × (67739 ≤ r) ⌝ }
 {
     let mut at = end;
     let mut k = rows;
     while 0 < k {
         k -= 1;
-        at = put_numbers(text, at, events, 4 * k + 1, 3);
-        at = put_token(text, at, slices::cell(events, 4 * k));
+        at = put_numbers(text, at, events, token::EVENT_WIDTH * k + 1, 3);
+        at = put_token(text, at, slices::cell(events, token::EVENT_WIDTH * k));
     }
     at
 }
@@ -90,7 +91,7 @@ pub fn put_rows(
     e: usize,
 ) -> usize
     requires { ⌜ (length (now text) ≡ 239771) × (n ≤ 1024) × (q ≤ 1024) × (e ≤ 4096)
-        × (2 * n ≤ length (now names)) × (3 * q ≤ length (now qnames)) × (4 * e ≤ length (now events)) ⌝ }
+        × (nameWidth * n ≤ length (now names)) × (qnameWidth * q ≤ length (now qnames)) × (eventWidth * e ≤ length (now events)) ⌝ }
     ensures { λ r. ⌜ PutBefore (now (text .entry)) (now (text .exit)) 239771 r
         (rowLines (nameRowsIn n (now (names .entry))) (qnameRowsIn q (now (qnames .entry))) (eventRowsIn e (now (events .entry)))) × (155 ≤ r) ⌝ }
 {

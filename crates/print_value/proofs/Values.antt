@@ -12,10 +12,10 @@ use Rattle.sequences.specs.Lists.{Bytes, bytesOf}
 use Rattle.sequences.proofs.Units.{length-bytesOf}
 use Rattle.text.specs.declared.Shown.{Shown}
 use Rattle.plan.specs.Text.{kindOf, textOf, isSame}
-use Rattle.text.specs.Shows.{laid, shownBy, Shows, partOf, handed, answerOf}
+use Rattle.text.specs.Shows.{laid, shownBy, Shows, partOf, handed, textAnswer}
 use Rattle.plan.proofs.Lengths.{text-told, text-short}
 use Rattle.text.proofs.Returned.{part-is}
-use Rattle.print_value.specs.Display.{refusal, shownLines, valueLines, printed}
+use Rattle.print_value.specs.Printed.{refusal, shownLines, valueLines, printed}
 
 -- every text fits a buffer of 262,226 bytes
 text-fits : (token : ℕ) (p units : List ℕ) → Bytes p → textOf token p ≡ some units → length (bytesOf units) ≤ 262226
@@ -27,7 +27,7 @@ text-fits token p units b e =
 
 -- the answer, and the part that it speaks of, for a text that fits
 lines-are : (own : Bool) (text : Option (List ℕ)) (room : ℕ) → ((units : List ℕ) → text ≡ some units → length (bytesOf units) ≤ room)
-    → (shownLines (answerOf (shownBy own text room)) (handed own text room) ≡ valueLines text) × (length (handed own text room) ≤ room)
+    → (shownLines (textAnswer (shownBy own text room)) (handed own text room) ≡ valueLines text) × (length (handed own text room) ≤ room)
 unfolding shownLines laid
 lines-are true none room f = (refl, omega arith)
 lines-are false none room f = (refl, omega arith)
@@ -37,7 +37,7 @@ lines-are false (some units) room f =
     (rw l, rw l (f units refl))
 
 module _ {token : ℕ} {p before after : List ℕ} {r : Shown} (b : Bytes p) (s : Shows token p before after r) (w : length before ≡ 262226) where
-  both : (shownLines (answerOf r) (partOf p after r) ≡ valueLines (textOf token p)) × (length (partOf p after r) ≤ 262226)
+  both : (shownLines (textAnswer r) (partOf p after r) ≡ valueLines (textOf token p)) × (length (partOf p after r) ≤ 262226)
   both =
       let h = lines-are (isSame (kindOf token)) (textOf token p) 262226 (λ units e. text-fits token p units b e) in
       rw (part-is token p before after r b s, s .answer, w) h
@@ -45,7 +45,7 @@ module _ {token : ℕ} {p before after : List ℕ} {r : Shown} (b : Bytes p) (s 
   pub part-short : length (partOf p after r) ≤ 262226
   part-short = both .1
 
-  pub lines-shown : shownLines (answerOf r) (partOf p after r) ≡ valueLines (textOf token p)
+  pub lines-shown : shownLines (textAnswer r) (partOf p after r) ≡ valueLines (textOf token p)
   lines-shown = both .0
 
 pub printed-none : (input : List ℕ) → length input ≡ 0 → printed input ≡ refusal 12 0

@@ -3,10 +3,16 @@ ghost use mathlib.Core.Path.{_≡_};
 ghost use mathlib.Core.List.{_++_};
 ghost use Prim.Native.Nat.{_≤_};
 ghost use lib.ListN.{length, take};
-ghost use Rattle.text.specs.Shows.{partOf, answerOf};
+ghost use Rattle.text.specs.Shows.{partOf, textAnswer};
 ghost use Rattle.print_lines.specs.Lines.{PutBefore};
-ghost use Rattle.print_value.specs.Display.{textLines, refusal, shownLines, printed};
+ghost use Rattle.print_value.specs.Printed.{textLines, refusal, shownLines, printed};
 use text::Shown;
+
+// Four bytes for each byte of the longest payload, and 82 for a number.
+const TEXT_ROOM: usize = 262226;
+
+// The bytes of the longest text that is printed.
+pub const PRINTED: usize = 524483;
 
 // `accepted N`, and the bytes in hexadecimal.
 fn put_text(out: &mut [u8], text: &[u8]) -> usize
@@ -30,7 +36,7 @@ fn put_refusal(out: &mut [u8], number: u32, count: usize) -> usize
 // What `show` answered.
 fn put_shown<'a>(out: &mut [u8], payload: &'a [u8], buffer: &'a [u8], shown: Shown) -> usize
     requires { ⌜ (length (now out) ≡ 524483) × (length (partOf (now payload) (now buffer) shown) ≤ 262226) ⌝ }
-    ensures { λ r. ⌜ PutBefore (now (out .entry)) (now (out .exit)) 524483 r (shownLines (answerOf shown) (partOf (now (payload .entry)) (now (buffer .entry)) shown)) ⌝ }
+    ensures { λ r. ⌜ PutBefore (now (out .entry)) (now (out .exit)) 524483 r (shownLines (textAnswer shown) (partOf (now (payload .entry)) (now (buffer .entry)) shown)) ⌝ }
 {
     match shown {
         Shown::Own(_) => put_text(out, text::part(payload, buffer, shown)),
@@ -50,7 +56,7 @@ pub fn print(input: &[u8], out: &mut [u8]) -> usize
         return put_refusal(out, token::NO_TEXT, 0);
     }
     let payload = &input[1..];
-    let mut buffer = [0u8; 262226];
+    let mut buffer = [0u8; TEXT_ROOM];
     let shown = text::show(input[0], payload, &mut buffer);
     put_shown(out, payload, &buffer, shown)
 }

@@ -9,20 +9,22 @@ use native.Mathlib.Numerals.{add-one}
 use lib.Dec.{ltb}
 use lib.ListN.{length, getD, getElem?, set}
 use Rattle.sequences.specs.Lists.{Front}
+use Rattle.sequences.specs.Members.{Every}
 use Rattle.sequences.proofs.Overlay.{front-at}
 use Rattle.machine.specs.Rows.{NameRow, QnameRow, qnameRow}
 use Rattle.machine.specs.Events.{nameText}
-use Rattle.machine.specs.Facts.{Every, QnameFits}
+use Rattle.machine.specs.Facts.{QnameFits}
+use Rattle.machine.specs.Tables.{nameRowsIn, qnameRowsIn}
+use Rattle.machine.proofs.Tables.{length-name-rows, qname-row-at, length-qname-rows, at-some, every-at}
 use Rattle.form.specs.Places.{Triple, sameTriple, numberOf, qnumberOf}
 use Rattle.form.proofs.Places.{tells-triple}
-use Rattle.classes.specs.Tables.{nameRowsIn, qnameRowsIn}
 use Rattle.classes.specs.Classes.{textsOf, nameClasses, tripleOf, triplesOf, qnameClasses}
 use Rattle.classes.specs.Search.{Last, Chained, classAt, keyOf, Keyable, keyAt}
-use Rattle.classes.proofs.Tables.{length-name-rows, qname-row-at, length-qname-rows, at-some, every-at}
 use Rattle.classes.proofs.Classes.{place-own, same-class, class-text, name-class-at, name-text-at, length-classes, triples-at, qname-class-at, length-qclasses}
 use Rattle.classes.proofs.Keys.{key-apart}
-use Rattle.classes.proofs.Filled.{Filled, filled-none, filled-next, filled-front}
+use Rattle.classes.proofs.FirstValues.{FirstValues, values-none, values-next, values-front}
 use Rattle.classes.proofs.Chain.{last-as, chained-as, Slotted, slotted-none, slotted-next, class-chosen}
+use Rattle.token.specs.Answers.{qnameWidth}
 
 module _ (doc : List ℕ) (N : List NameRow) (classes : List ℕ) (few : length N ≤ 1024) (front : Front (nameClasses doc N) classes) where
   class-is : (x : ℕ) → x ≤ length N → classAt classes x ≡ numberOf (textsOf doc N) (nameText doc N x)
@@ -73,7 +75,7 @@ module _ (doc : List ℕ) (N : List NameRow) (classes : List ℕ) (few : length 
 
 -- row k of a table of qnames
 abbrev qnameAt : List ℕ → ℕ → QnameRow
-qnameAt qnames k = qnameRow (getD qnames (3 * k) 0) (getD qnames (3 * k + 1) 0) (getD qnames (3 * k + 2) 0)
+qnameAt qnames k = qnameRow (getD qnames (qnameWidth * k) 0) (getD qnames (qnameWidth * k + 1) 0) (getD qnames (qnameWidth * k + 2) 0)
 
 -- its three texts
 abbrev tripleAt : List ℕ → List NameRow → List ℕ → ℕ → Triple
@@ -86,25 +88,25 @@ module _ (doc names : List ℕ) (rows : ℕ) (qnames : List ℕ) (count : ℕ) (
   -- the keys of the rows before r are stored, and the rows are in their slots and have their classes
   pub record Keyed (qclasses slots chain keys : List ℕ) (r : ℕ) : Type 0 where
     pub within : r ≤ count
-    pub keyed : Filled (keyAt qnames classes) r keys
+    pub keyed : FirstValues (keyAt qnames classes) r keys
     pub slotted : Slotted (λ k. keyAt qnames classes k % 2039) r slots chain
-    pub classed : Filled classFor r qclasses
+    pub classed : FirstValues classFor r qclasses
 
   pub keyed-none : (qclasses slots chain keys : List ℕ) → length qclasses ≡ 1024 → length slots ≡ 2039 → length chain ≡ 1024 → length keys ≡ 1024
       → ((b : ℕ) → b < 2039 → getD slots b 0 ≡ 1024) → Keyed qclasses slots chain keys 0
   keyed-none qclasses slots chain keys l h i m f =
-      record { within = omega arith; keyed = filled-none m; slotted = slotted-none _ slots chain h i f; classed = filled-none l }
+      record { within = omega arith; keyed = values-none m; slotted = slotted-none _ slots chain h i f; classed = values-none l }
 
   pub keyed-all : (qclasses slots chain keys : List ℕ) (r : ℕ) → Keyed qclasses slots chain keys r → count ≤ r → count ≤ 1024
       → Front (qnameClasses doc (nameRowsIn rows names) (qnameRowsIn count qnames)) qclasses × (length qclasses ≡ 1024)
   keyed-all qclasses slots chain keys r x h b =
       let n = length-qclasses doc (nameRowsIn rows names) (qnameRowsIn count qnames) ∙ length-qname-rows count qnames in
-      (filled-front _ (x .classed) (omega (arith, n)) (omega (arith, x .within)), x .classed .long)
+      (values-front _ (x .classed) (omega (arith, n)) (omega (arith, x .within)), x .classed .long)
 
   -- the keys of the rows up to r stand in the array that is searched
   module _ (qclasses slots chain keys : List ℕ) (r key : ℕ) (x : Keyed qclasses slots chain keys r) (b : r < 1024) (e : key ≡ keyAt qnames classes r) where
-    stored : Filled (keyAt qnames classes) (r + 1) (set keys r key)
-    stored = filled-next key (x .keyed) b e
+    stored : FirstValues (keyAt qnames classes) (r + 1) (set keys r key)
+    stored = values-next key (x .keyed) b e
 
     stored-at : (k : ℕ) → k ≤ r → getD (set keys r key) k 0 ≡ keyAt qnames classes k
     stored-at k h = stored .are k (omega arith)
@@ -129,7 +131,7 @@ module _ (doc names : List ℕ) (rows : ℕ) (qnames : List ℕ) (count : ℕ) (
     qname-fits k h = rw (length-name-rows rows names) (every-at fits k (qname-row-at count qnames k h))
 
     pub keyables : (k : ℕ) → k < count
-        → Keyable classes (getD qnames (3 * k) 0) × Keyable classes (getD qnames (3 * k + 1) 0) × Keyable classes (getD qnames (3 * k + 2) 0)
+        → Keyable classes (getD qnames (qnameWidth * k) 0) × Keyable classes (getD qnames (qnameWidth * k + 1) 0) × Keyable classes (getD qnames (qnameWidth * k + 2) 0)
     keyables k h =
         let f = qname-fits k h in
         let g = keyable doc (nameRowsIn rows names) classes few-rows front in
@@ -181,5 +183,5 @@ module _ (doc names : List ℕ) (rows : ℕ) (qnames : List ℕ) (count : ℕ) (
           within = omega arith;
           keyed = stored qclasses slots chain keys r key x b e;
           slotted = slotted-next _ r (key % 2039) (x .slotted) b (ap (λ (v : ℕ). v % 2039) e) (omega arith) put;
-          classed = filled-next c (x .classed) b (class-chosen j (r + 1) c found (x .classed) same (key-own r l) i);
+          classed = values-next c (x .classed) b (class-chosen j (r + 1) c found (x .classed) same (key-own r l) i);
         }

@@ -3,21 +3,26 @@ ghost use mathlib.Core.Path.{_≡_};
 ghost use Prim.Native.Nat.{_+_, _*_, _%_, _≤_, _<_};
 ghost use lib.ListN.{length, getD};
 ghost use Rattle.sequences.specs.Lists.{Front};
-ghost use Rattle.machine.specs.Facts.{Every, QnameFits};
-ghost use Rattle.classes.specs.Tables.{nameRowsIn, qnameRowsIn};
+ghost use Rattle.sequences.specs.Members.{Every};
+ghost use Rattle.machine.specs.Facts.{QnameFits};
+ghost use Rattle.machine.specs.Tables.{nameRowsIn, qnameRowsIn};
 ghost use Rattle.classes.specs.Classes.{nameClasses, qnameClasses};
 ghost use Rattle.classes.specs.Search.{Last, Chained, Keyable, keyAt};
+ghost use Rattle.token.specs.Answers.{nameWidth, qnameWidth};
+
+// The slots, as a key has them.
+const MODULUS: u32 = classes::SLOTS as u32;
 
 // The classes of a row of qnames as one number: equal keys mean equal texts.
-fn key_of(qnames: &[u32], classes: &[u32; 1024], r: usize) -> u32
-    requires { ⌜ (r < 1024) × (3 * r + 3 ≤ length (now qnames)) × Keyable (now classes) (getD (now qnames) (3 * r) 0)
-        × Keyable (now classes) (getD (now qnames) (3 * r + 1) 0) × Keyable (now classes) (getD (now qnames) (3 * r + 2) 0) ⌝ }
+fn key_of(qnames: &[u32], classes: &[u32; token::NAME_ROWS], r: usize) -> u32
+    requires { ⌜ (r < 1024) × (qnameWidth * r + qnameWidth ≤ length (now qnames)) × Keyable (now classes) (getD (now qnames) (qnameWidth * r) 0)
+        × Keyable (now classes) (getD (now qnames) (qnameWidth * r + 1) 0) × Keyable (now classes) (getD (now qnames) (qnameWidth * r + 2) 0) ⌝ }
     ensures { λ k. ⌜ k ≡ keyAt (now (qnames .entry)) (now (classes .entry)) r ⌝ }
 {
-    let uri = classes::class_of(qnames, classes, 3 * r);
-    let prefix = classes::class_of(qnames, classes, 3 * r + 1);
-    let local = classes::class_of(qnames, classes, 3 * r + 2);
-    (uri * 1025 + prefix) * 1025 + local
+    let uri = classes::class_of(qnames, classes, token::QNAME_WIDTH * r);
+    let prefix = classes::class_of(qnames, classes, token::QNAME_WIDTH * r + 1);
+    let local = classes::class_of(qnames, classes, token::QNAME_WIDTH * r + 2);
+    (uri * classes::CLASSES + prefix) * classes::CLASSES + local
 }
 
 // The last place before place `r` that holds its key, along the chain of its slot from place `first` on; 1024 where there is none.
@@ -44,10 +49,10 @@ pub fn qname_classes(
     rows: usize,
     qnames: &[u32],
     count: usize,
-    classes: &[u32; 1024],
-    qclasses: &mut [u32; 1024],
+    classes: &[u32; token::NAME_ROWS],
+    qclasses: &mut [u32; token::QNAME_ROWS],
 )
-    requires { ⌜ (rows ≤ 1024) × (2 * rows ≤ length (now names)) × (count ≤ 1024) × (3 * count ≤ length (now qnames))
+    requires { ⌜ (rows ≤ 1024) × (nameWidth * rows ≤ length (now names)) × (count ≤ 1024) × (qnameWidth * count ≤ length (now qnames))
         × (length (now classes) ≡ 1024) × (length (now qclasses) ≡ 1024)
         × Front (nameClasses (now doc) (nameRowsIn rows (now names))) (now classes)
         × Every (QnameFits rows) (qnameRowsIn count (now qnames)) ⌝ }
@@ -55,14 +60,14 @@ pub fn qname_classes(
         × (length (now (qclasses .exit)) ≡ 1024) ⌝ }
 {
     // as for names; a row's slot is that of its key
-    let mut slots = [1024u16; 2039];
+    let mut slots = [1024u16; classes::SLOTS];
     let mut chain = [1u16; 1024];
     let mut keys = [1u32; 1024];
     let mut r: usize = 0;
     while r < count {
         let key = key_of(qnames, classes, r);
         keys[r] = key;
-        let s = (key % 2039) as usize;
+        let s = (key % MODULUS) as usize;
         let first = slots[s] as usize;
         let j = find_key(&keys, &chain, first, r);
         qclasses[r] = classes::class_or(qclasses, j, r as u32 + 1);

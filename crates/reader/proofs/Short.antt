@@ -14,7 +14,7 @@ use Rattle.common.specs.declared.Common.{Common}
 use Rattle.common.specs.declared.Common.the-variants.{End, Begin, Fixed}
 use Rattle.scan.proofs.Fine.{found-fine}
 use Rattle.machine.specs.Machine.{Result}
-use Rattle.rows.specs.Tables.{Tables, tables, put4, rowAt, evented, entered, closed, Turned}
+use Rattle.rows.specs.Tables.{Tables, tables, put4, rowAt, evented, entered, elementClosed, Turned}
 use Rattle.machine.proofs.Goes.{Goes}
 use Rattle.reader.proofs.Walks.{Walks, going, nearer}
 
@@ -42,7 +42,7 @@ module _ {doc : List ℕ} {room : Room} {version : ℕ} {end : Result} {n₀ q�
       let n = nearer w (commonStep doc v room x) go f u in
       record { walks = going w (commonStep doc v room x) (common-is doc v room e g) go f u; past = n .0; inside = n .1 }
 
-  pub ended : c ≡ End → events′ ≡ put4 events (v .events) 0xF7 (v .at) 0 0 → r ≡ closed v (v .at + 1)
+  pub ended : c ≡ End → events′ ≡ put4 events (v .events) 0xF7 (v .at) 0 0 → r ≡ elementClosed v (v .at + 1)
       → Onward doc room version end n₀ q₀ e₀ (tables names qnames events′ stack qstack frames) v r
   ended g p s =
       onward g tt (record { names-are = refl; qnames-are = refl; events-are = p; stack-is = refl; qstack-is = refl; frames-are = refl; view-is = s })

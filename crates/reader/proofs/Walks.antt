@@ -18,7 +18,7 @@ use Rattle.scan.specs.declared.Step.{Step}
 use Rattle.scan.specs.declared.Step.the-variants as step
 use Rattle.machine.specs.Machine.{State, view, apply, Result, result, run, started}
 use Rattle.machine.specs.Contract.{Reads}
-use Rattle.rows.specs.Tables.{Tables, tables, answerAt, Turned, Held, Begins}
+use Rattle.rows.specs.Tables.{Tables, tables, answerAt, Turned, Held, ReadingBegins}
 use Rattle.steps.proofs.Keeps.{Stored, Kept, keep, same-lengths}
 use Rattle.machine.proofs.Goes.{Goes, passes, stepped, stopped}
 
@@ -109,7 +109,7 @@ module _ {doc : List ℕ} {room : Room} {version : ℕ} {end : Result} {n₀ q�
           (record { answer-is = refl; names-are = w .stored .names-are; qnames-are = w .stored .qnames-are; events-are = w .stored .events-are })
 
 -- before the first step
-pub starting : (doc : List ℕ) (room : Room) (version next : ℕ) (n₀ q₀ e₀ stack qstack frames : List ℕ) → Begins (length doc) room n₀ q₀ e₀ next
+pub starting : (doc : List ℕ) (room : Room) (version next : ℕ) (n₀ q₀ e₀ stack qstack frames : List ℕ) → ReadingBegins (length doc) room n₀ q₀ e₀ next
     → length stack ≡ 1024 → length qstack ≡ 1024 → length frames ≡ 48
     → Walks doc room version (run (suc (length doc)) doc room version (started version next)) n₀ q₀ e₀ (tables n₀ q₀ e₀ stack qstack frames) (view (started version next))
 starting doc room version next n₀ q₀ e₀ stack qstack frames b ls lq lf =

@@ -5,16 +5,16 @@ use mathlib.Core.List.{List}
 use native.Mathlib.Omega.{arith}
 use lib.ListN.{length}
 use Rattle.token.specs.Answers.{longest}
-use Rattle.fields.specs.Headers.{HeaderWithin}
+use Rattle.fields.specs.Bounds.{HeaderWithin}
 use Rattle.fields.specs.declared.Header.{Header}
 use Rattle.fields.specs.declared.Header.the-variants as header
 use Rattle.machine.specs.Machine.{Result, result, blank}
-use Rattle.machine.specs.Contract.{roomIn, answerOf, Reads}
-use Rattle.rows.specs.Tables.{Begins}
+use Rattle.machine.specs.Contract.{roomIn, readAnswer, Reads}
+use Rattle.rows.specs.Tables.{ReadingBegins}
 use Rattle.machine.specs.declared.Answer.{Answer}
 
 -- nothing is read, and no row is written
-pub unread : (end : Result) (number place : ℕ) (n q e : List ℕ) {a : Answer} → result number place 0 blank ≡ end → a ≡ answerOf (result number place 0 blank)
+pub unread : (end : Result) (number place : ℕ) (n q e : List ℕ) {a : Answer} → result number place 0 blank ≡ end → a ≡ readAnswer (result number place 0 blank)
     → Reads end n q e n q e a
 unread end number place n q e is a = rw (← is) (record { answer-is = a; names-are = refl; qnames-are = refl; events-are = refl })
 
@@ -22,5 +22,5 @@ pub is-header : (size at : ℕ) {r : Header} {version next : ℕ} → r ≡ head
     → (next ≡ at + 5) × (next ≤ size) × (1 ≤ version) × (version ≤ 2)
 is-header size at e h = subst (λ (x : Header). HeaderWithin size at x) e h
 
-pub begins : (size : ℕ) (n q e : List ℕ) (next : ℕ) → size ≤ longest → next ≤ size → Begins size (roomIn (length n) (length q) (length e)) n q e next
+pub begins : (size : ℕ) (n q e : List ℕ) (next : ℕ) → size ≤ longest → next ≤ size → ReadingBegins size (roomIn (length n) (length q) (length e)) n q e next
 begins size n q e next h l = omega arith

@@ -1,11 +1,11 @@
 // Reading: a document into three lent tables of 32-bit numbers, for any document and any tables (01, "The four jobs").
 ghost use mathlib.Core.Path.{_≡_};
-ghost use Prim.Native.Nat.{suc, min};
+ghost use Prim.Native.Nat.{suc};
 ghost use lib.ListN.{length};
 ghost use Rattle.token.specs.Entries.{Listed};
 ghost use Rattle.machine.specs.Machine.{blank, view, started, result, run, reading};
-ghost use Rattle.machine.specs.Contract.{roomIn, answerOf, Reads};
-ghost use Rattle.rows.specs.Tables.{answerAt, Begins};
+ghost use Rattle.machine.specs.Contract.{roomIn, readAnswer, Reads};
+ghost use Rattle.rows.specs.Tables.{answerAt, ReadingBegins};
 use common::Common;
 use fields::Header;
 use machine::Answer;
@@ -60,13 +60,13 @@ fn walk(
     version: usize,
     next: usize,
 ) -> Answer
-    requires { ⌜ Listed (now table) × Begins (length (now doc)) room (now names) (now qnames) (now events) next ⌝ }
+    requires { ⌜ Listed (now table) × ReadingBegins (length (now doc)) room (now names) (now qnames) (now events) next ⌝ }
     ensures { λ r. ⌜ Reads (run (suc (length (now (doc .entry)))) (now (doc .entry)) room version (started version next))
         (now (names .entry)) (now (qnames .entry)) (now (events .entry)) (now (names .exit)) (now (qnames .exit)) (now (events .exit)) r ⌝ }
 {
     // A first value whose bytes differ is stored by vector instructions, and one of equal bytes by a call of memset.
-    let mut stack = [1u32; 1024];
-    let mut qstack = [1u32; 1024];
+    let mut stack = [1u32; token::NAME_ROWS];
+    let mut qstack = [1u32; token::QNAME_ROWS];
     let mut frames = [0usize; 48];
     let mut v = first_view(version, next);
     loop {
@@ -105,25 +105,19 @@ fn walk(
     }
 }
 
-fn least(a: usize, b: usize) -> usize
-    ensures { λ r. ⌜ r ≡ min a b ⌝ }
-{
-    if a < b { a } else { b }
-}
-
 // The whole rows that the lent tables hold, within the bounds.
 fn room_of(names: usize, qnames: usize, events: usize) -> Room
     ensures { λ r. ⌜ r ≡ roomIn names qnames events ⌝ }
 {
     Room {
-        names: least(names / token::NAME_WIDTH, token::NAME_ROWS),
-        qnames: least(qnames / token::QNAME_WIDTH, token::QNAME_ROWS),
-        events: least(events / token::EVENT_WIDTH, token::EVENT_ROWS),
+        names: slices::least(names / token::NAME_WIDTH, token::NAME_ROWS),
+        qnames: slices::least(qnames / token::QNAME_WIDTH, token::QNAME_ROWS),
+        events: slices::least(events / token::EVENT_WIDTH, token::EVENT_ROWS),
     }
 }
 
 fn none_read(number: u32, place: usize) -> Answer
-    ensures { λ r. ⌜ r ≡ answerOf (result number place 0 blank) ⌝ }
+    ensures { λ r. ⌜ r ≡ readAnswer (result number place 0 blank) ⌝ }
 {
     Answer {
         number,

@@ -11,16 +11,16 @@ use borrow.Author.Tests.{eqb-true, ne-eqb}
 use Rattle.sequences.specs.Lists.{Bytes}
 use Rattle.machine.specs.Rows.{EventRow, event}
 use Rattle.machine.specs.Events.{Event, eventOf}
-use Rattle.classes.specs.Tables.{nameRowsIn, qnameRowsIn, eventRowsIn}
-use Rattle.classes.proofs.Tables.{event-rows-from, length-event-rows}
+use Rattle.machine.specs.Tables.{nameRowsIn, qnameRowsIn, eventRowsIn, eventsIn}
+use Rattle.machine.proofs.Tables.{event-rows-from, length-event-rows}
 use Rattle.meaning.specs.Meaning.{Symbol, Attribute, none-open, symbolsOf, attributeAfter, depthAfter, inside, begins, onto, newIf, pieces, rest, meanings}
 use Rattle.meaning.specs.Codes.{codesOf}
 use Rattle.meaning.proofs.Codes.{codes-append}
-use Rattle.hash.specs.Hash.{hashFrom, hashOf}
+use Rattle.hash.specs.Hash.{hashFrom, hashOf, seed}
 use Rattle.render.specs.declared.Progress.{Progress}
-use Rattle.render.specs.Render.{Renderable, Rendered, eventsIn, roomFor}
+use Rattle.render.specs.Render.{Renderable, Rendered, roomFor}
 use Rattle.marks.specs.Names.{classIn}
-use Rattle.symbols.specs.Store.{Put}
+use Rattle.symbols.specs.Store.{NumbersPut}
 use Rattle.render.specs.Codes.{attributeOf, codesBy, rowBy, beginsBy, depthBy, roomBy, RowFits}
 use Rattle.marks.specs.Marks.{openingIn, MarksOf}
 use Rattle.render.specs.Effects.{RowDone}
@@ -28,6 +28,7 @@ use Rattle.symbols.proofs.Going.{put-put, put-none, put-long, put-as, put-set}
 use Rattle.render.proofs.Tokens.{Ahead, ahead-of, ahead-le, fits-room}
 use Rattle.render.proofs.Says.{Says, says, row-few}
 use Rattle.render.proofs.Sums.{flat, sums, later, flat-snoc, sums-long, flat-new, sums-new, hashes-new, hash-new, cut-here, parts-here, hashes-here}
+use Rattle.token.specs.Answers.{eventWidth}
 
 -- ---- symbols so far, at a row that begins a record or does not
 
@@ -150,9 +151,9 @@ pub record RowsDone (doc names qnames events : List ℕ) (rows qrows count : ℕ
   pub last-in : last ≤ length doc
   pub whole : done ++ onto cur (pieces (progress .depth) (attributeOf (progress .attribute)) (map (eventOf doc (nameRowsIn rows names) (qnameRowsIn qrows qnames)) (drop k (eventRowsIn count events))))
       ≡ onto [] (pieces 0 none-open (map (eventOf doc (nameRowsIn rows names) (qnameRowsIn qrows qnames)) (eventRowsIn count events)))
-  pub syms-are : Put syms₀ 0 (flat (map (codesOf (classIn doc names rows)) done) ++ codesOf (classIn doc names rows) cur) syms (progress .at)
-  pub starts-are : Put starts₀ 0 (sums 0 (map (codesOf (classIn doc names rows)) done)) starts (progress .records)
-  pub hashes-are : Put hashes₀ 0 (map hashOf (map (codesOf (classIn doc names rows)) done)) hashes (progress .records)
+  pub syms-are : NumbersPut syms₀ 0 (flat (map (codesOf (classIn doc names rows)) done) ++ codesOf (classIn doc names rows) cur) syms (progress .at)
+  pub starts-are : NumbersPut starts₀ 0 (sums 0 (map (codesOf (classIn doc names rows)) done)) starts (progress .records)
+  pub hashes-are : NumbersPut hashes₀ 0 (map hashOf (map (codesOf (classIn doc names rows)) done)) hashes (progress .records)
   pub hash-is : progress .hash ≡ hashOf (codesOf (classIn doc names rows) cur)
   pub ahead : Ahead doc rows qrows p (drop k (eventRowsIn count events)) last
   pub at-few : progress .at ≤ 5 * p + 2 * k
@@ -162,21 +163,21 @@ pub record RowsDone (doc names qnames events : List ℕ) (rows qrows count : ℕ
 
 module _ {doc names qnames events classes : List ℕ} {rows qrows count : ℕ} (d : Renderable doc names qnames events classes rows qrows count) where
   pub rows-first : (syms starts hashes : List ℕ) → RowsDone doc names qnames events rows qrows count syms starts hashes syms starts hashes 0
-      (record { at = 0; hash = 88172645463325252; records = 0; depth = 0; attribute = 0 })
+      (record { at = 0; hash = seed; records = 0; depth = 0; attribute = 0 })
   unfolding codesOf hashFrom
   rows-first syms starts hashes =
       record {
         done = [];
         cur = [];
         p = 0;
-        last = d .last;
-        last-in = d .inside;
+        last = d .filled .last;
+        last-in = d .filled .inside;
         whole = refl;
         syms-are = put-none syms 0;
         starts-are = put-none starts 0;
         hashes-are = put-none hashes 0;
         hash-is = refl;
-        ahead = ahead-of doc rows qrows (d .events-fit);
+        ahead = ahead-of doc rows qrows (d .filled .events-fit);
         at-few = omega arith;
         n-few = omega arith;
         shallow = omega arith;
@@ -185,7 +186,7 @@ module _ {doc names qnames events classes : List ℕ} {rows qrows count : ℕ} (
 
   module _ {syms₀ starts₀ hashes₀ syms starts hashes : List ℕ} {k : ℕ} {progress : Progress} (w : RowsDone doc names qnames events rows qrows count syms₀ starts₀ hashes₀ syms starts hashes k progress) where
     pub n-small : progress .records ≤ 2048
-    n-small = omega (arith, w .n-few, w .reached, d .efew)
+    n-small = omega (arith, w .n-few, w .reached, d .filled .efew)
 
     pub syms-long : length syms ≡ length syms₀
     syms-long = put-long (w .syms-are)
@@ -198,7 +199,7 @@ module _ {doc names qnames events classes : List ℕ} {rows qrows count : ℕ} (
 
     module _ {marks : List ℕ} (M : MarksOf doc names qnames classes rows qrows marks) (h : k < count) where
       abbrev row : EventRow
-      row = event (getD events (4 * k) 0) (getD events (4 * k + 1) 0) (getD events (4 * k + 2) 0) (getD events (4 * k + 3) 0)
+      row = event (getD events (eventWidth * k) 0) (getD events (eventWidth * k + 1) 0) (getD events (eventWidth * k + 2) 0) (getD events (eventWidth * k + 3) 0)
 
       here : Ahead doc rows qrows (w .p) (row ∷ drop (suc k) (eventRowsIn count events)) (w .last)
       here = rw (event-rows-from count events k h) at (w .ahead)
@@ -248,7 +249,7 @@ module _ {doc names qnames events classes : List ℕ} {rows qrows count : ℕ} (
             hashes-are = put-as
                 (hashes-new s (map (codesOf cls) (w .done)) (codesOf cls (w .cur)) (progress .hash) (w .hash-is) ∙ ap (map hashOf) (done-codes cls s (w .done) (w .cur)))
                 (put-put (w .hashes-are) (y .hashes-are));
-            hash-is = y .hash-is ∙ ap (hashFrom (cond s 88172645463325252 (progress .hash))) ex ∙ hash-new s (codesOf cls (w .cur)) (codesOf cls x) (progress .hash) (w .hash-is) ∙ ap hashOf (cur-codes cls s (w .cur) x);
+            hash-is = y .hash-is ∙ ap (hashFrom (cond s seed (progress .hash))) ex ∙ hash-new s (codesOf cls (w .cur)) (codesOf cls x) (progress .hash) (w .hash-is) ∙ ap hashOf (cur-codes cls s (w .cur) x);
             ahead = rw e1 (here .3);
             at-few = omega (arith, y .symbols .to-is, w .at-few, reach .0);
             n-few = rw (y .depth-is) (deep (progress .depth) (row .token) (progress .records) (r .records) k (count-new s (progress .at) (progress .records) (r .records) (y .starts-are .to-is)) (w .n-few));
@@ -257,14 +258,14 @@ module _ {doc names qnames events classes : List ℕ} {rows qrows count : ℕ} (
           }
 
       -- the same, of numbers that were read
-      module _ (token a : ℕ) (et : token ≡ getD events (4 * k) 0) (ea : a ≡ getD events (4 * k + 2) 0) where
-        pub row-fits : RowFits doc token a (getD events (4 * k + 3) 0)
+      module _ (token a : ℕ) (et : token ≡ getD events (eventWidth * k) 0) (ea : a ≡ getD events (eventWidth * k + 2) 0) where
+        pub row-fits : RowFits doc token a (getD events (eventWidth * k + 3) 0)
         row-fits = rw (et, ea) (said .fits)
 
-        pub row-room : roomFor (length doc) count ≤ length syms₀ → progress .at + roomBy token (getD events (4 * k + 3) 0) ≤ length syms
+        pub row-room : roomFor (length doc) count ≤ length syms₀ → progress .at + roomBy token (getD events (eventWidth * k + 3) 0) ≤ length syms
         row-room g = rw et (omega (arith, reach .0, reach .1, w .at-few, syms-long))
 
-        pub rows-turn : Bytes doc → {syms′ starts′ hashes′ : List ℕ} {r : Progress} → RowDone doc marks token a (getD events (4 * k + 3) 0) syms starts hashes progress syms′ starts′ hashes′ r
+        pub rows-turn : Bytes doc → {syms′ starts′ hashes′ : List ℕ} {r : Progress} → RowDone doc marks token a (getD events (eventWidth * k + 3) 0) syms starts hashes progress syms′ starts′ hashes′ r
             → RowsDone doc names qnames events rows qrows count syms₀ starts₀ hashes₀ syms′ starts′ hashes′ (k + 1) r
         rows-turn bytes y = rows-next bytes (rw (et, ea) at y)
 
@@ -283,10 +284,10 @@ module _ {doc names qnames events classes : List ℕ} {rows qrows count : ℕ} (
         let e3 : ps ≡ onto [] (pieces 0 none-open evs) = ap (λ (l : List Symbol). w .done ++ (l ∷ [])) (sym (append-nil (w .cur))) ∙ e2 in
         let e4 : rest ps ≡ rest (pieces 0 none-open evs) = ap rest e3 ∙ rest-onto (pieces 0 none-open evs) in
         let c1 : map (codesOf cls) (w .done) ++ (codesOf cls (w .cur) ∷ []) ≡ cs = sym (map-snoc cls (w .done) (w .cur)) in
-        let a1 : Put starts₀ 0 (sums 0 (map (codesOf cls) (w .done)) ++ (progress .at ∷ [])) (set starts n (progress .at)) (n + 1) = put-put (w .starts-are) (put-set starts n (progress .at)) in
+        let a1 : NumbersPut starts₀ 0 (sums 0 (map (codesOf cls) (w .done)) ++ (progress .at ∷ [])) (set starts n (progress .at)) (n + 1) = put-put (w .starts-are) (put-set starts n (progress .at)) in
         let a2 : sums 0 (map (codesOf cls) (w .done)) ++ (progress .at ∷ []) ≡ sums 0 cs
         = sums-new true (map (codesOf cls) (w .done)) (codesOf cls (w .cur)) (progress .at) (w .syms-are .to-is) ∙ ap (sums 0) c1 in
-        let g1 : Put hashes₀ 0 (map hashOf (map (codesOf cls) (w .done)) ++ (progress .hash ∷ [])) (set hashes n (progress .hash)) (n + 1) = put-put (w .hashes-are) (put-set hashes n (progress .hash)) in
+        let g1 : NumbersPut hashes₀ 0 (map hashOf (map (codesOf cls) (w .done)) ++ (progress .hash ∷ [])) (set hashes n (progress .hash)) (n + 1) = put-put (w .hashes-are) (put-set hashes n (progress .hash)) in
         let g2 : map hashOf (map (codesOf cls) (w .done)) ++ (progress .hash ∷ []) ≡ map hashOf cs
         = hashes-new true (map (codesOf cls) (w .done)) (codesOf cls (w .cur)) (progress .hash) (w .hash-is) ∙ ap (map hashOf) c1 in
         let b1 : flat (map (codesOf cls) (w .done)) ++ codesOf cls (w .cur) ≡ flat cs = sym (flat-snoc (map (codesOf cls) (w .done)) (codesOf cls (w .cur))) ∙ ap flat c1 in

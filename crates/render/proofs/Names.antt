@@ -9,16 +9,17 @@ use Rattle.sequences.proofs.Overlay.{front-at}
 use Rattle.machine.specs.Rows.{NameRow, qnameRow}
 use Rattle.machine.specs.Events.{qnamed, nameText, qnameEvent}
 use Rattle.machine.specs.Facts.{QnameFits}
+use Rattle.machine.specs.Tables.{nameRowsIn, qnameRowsIn}
+use Rattle.machine.proofs.Tables.{length-name-rows, qname-row-at, at-some, every-at}
 use Rattle.form.specs.Places.{numberOf}
-use Rattle.classes.specs.Tables.{nameRowsIn, qnameRowsIn}
 use Rattle.classes.specs.Classes.{textsOf, nameClasses}
 use Rattle.classes.specs.Search.{classAt}
-use Rattle.classes.proofs.Tables.{length-name-rows, qname-row-at, at-some, every-at}
 use Rattle.classes.proofs.Classes.{name-class-at, name-text-at, length-classes}
 use Rattle.qname_classes.proofs.Qnames.{keyable}
 use Rattle.meaning.specs.Codes.{both}
 use Rattle.render.specs.Render.{Renderable}
 use Rattle.marks.specs.Names.{classIn, uriAt, prefixAt, localAt, pairOf, Named}
+use Rattle.token.specs.Answers.{qnameWidth}
 
 class-is : (doc : List ℕ) (N : List NameRow) (classes : List ℕ) → Front (nameClasses doc N) classes → (x : ℕ) → x ≤ length N
     → classAt classes x ≡ numberOf (textsOf doc N) (nameText doc N x)
@@ -33,24 +34,24 @@ module _ {doc names qnames events classes : List ℕ} {rows qrows count : ℕ} (
   pub named-row : (row : ℕ) → 1 ≤ row → row ≤ qrows → Named doc names qnames classes rows row
   named-row row l h =
       let n : length (nameRowsIn rows names) ≡ rows = length-name-rows rows names in
-      let f : QnameFits rows (qnameRow (getD qnames (3 * (row - 1)) 0) (getD qnames (3 * (row - 1) + 1) 0) (getD qnames (3 * (row - 1) + 2) 0)) =
-      every-at (d .qnames-fit) (row - 1) (qname-row-at qrows qnames (row - 1) (omega arith)) in
-      let few : length (nameRowsIn rows names) ≤ 1024 = omega (arith, d .few) in
-      let u : getD qnames (3 * (row - 1)) 0 ≤ length (nameRowsIn rows names) = omega (arith, f .uri-in) in
-      let v : getD qnames (3 * (row - 1) + 2) 0 ≤ length (nameRowsIn rows names) = omega (arith, f .local-in) in
+      let f : QnameFits rows (qnameRow (getD qnames (qnameWidth * (row - 1)) 0) (getD qnames (qnameWidth * (row - 1) + 1) 0) (getD qnames (qnameWidth * (row - 1) + 2) 0)) =
+      every-at (d .filled .qnames-fit) (row - 1) (qname-row-at qrows qnames (row - 1) (omega arith)) in
+      let few : length (nameRowsIn rows names) ≤ 1024 = omega (arith, d .filled .few) in
+      let u : getD qnames (qnameWidth * (row - 1)) 0 ≤ length (nameRowsIn rows names) = omega (arith, f .uri-in) in
+      let v : getD qnames (qnameWidth * (row - 1) + 2) 0 ≤ length (nameRowsIn rows names) = omega (arith, f .local-in) in
       record {
         fits = record {
           from = l;
-          few = omega (arith, d .qfew);
-          long = omega (arith, d .qlong);
+          few = omega (arith, d .filled .qfew);
+          long = omega (arith, d .filled .qlong);
           uri-key = keyable doc (nameRowsIn rows names) classes few (d .classes-are) _ u;
           local-key = keyable doc (nameRowsIn rows names) classes few (d .classes-are) _ v;
         };
         uri-class = class-is doc (nameRowsIn rows names) classes (d .classes-are) _ u;
         local-class = class-is doc (nameRowsIn rows names) classes (d .classes-are) _ v;
         prefix-in = f .prefix-in;
-        names-long = d .long;
-        names-fit = d .names-fit;
+        names-long = d .filled .long;
+        names-fit = d .filled .names-fit;
       }
 
 pub pair-both : {doc names qnames classes : List ℕ} {rows row : ℕ} → Named doc names qnames classes rows row

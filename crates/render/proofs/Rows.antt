@@ -10,7 +10,7 @@ use borrow.Author.Tests.{eq-eqb, ne-eqb, lt-ltb, le-ltb, le-leb, lt-leb}
 use Rattle.sequences.specs.Lists.{part, unitsOf}
 use Rattle.plan.specs.Text.{textOf}
 use Rattle.meaning.specs.Codes.{mark}
-use Rattle.hash.specs.Hash.{hashFrom}
+use Rattle.hash.specs.Hash.{hashFrom, seed}
 use Rattle.symbols.specs.declared.Cursor.{Cursor}
 use Rattle.render.specs.declared.Progress.{Progress}
 use Rattle.symbols.specs.Store.{PutHashed}
@@ -242,7 +242,7 @@ begun-deep starts hashes p h =
 
 pub begun-here : (starts hashes : List ℕ) (p : Progress) → p .depth ≡ 0
     → Begun starts hashes p (set starts (p .records) (p .at)) (set hashes (p .records) (p .hash))
-    (record { at = p .at; hash = 88172645463325252; records = p .records + 1; depth = p .depth; attribute = p .attribute })
+    (record { at = p .at; hash = seed; records = p .records + 1; depth = p .depth; attribute = p .attribute })
 begun-here starts hashes p e =
     let f : eqb (p .depth) 0 ≡ true = eq-eqb (p .depth) 0 e in
     record {

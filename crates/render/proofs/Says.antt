@@ -10,6 +10,7 @@ use lib.Dec.{eqb, leb}
 use lib.ListN.{length, getD, length-append, length-map, length-take}
 use borrow.Author.Tests.{eqb-true, eq-eqb, ne-eqb, leb-true, leb-false}
 use Rattle.sequences.specs.Lists.{Bytes, part, unitsOf}
+use Rattle.sequences.specs.Members.{none, first}
 use Rattle.sequences.proofs.Units.{bytes-take, bytes-drop}
 use Rattle.token.specs.Tokens.{classOf, shapeOf}
 use Rattle.token.specs.declared.Class.the-variants as class
@@ -19,9 +20,9 @@ use Rattle.machine.specs.Rows.{EventRow, event}
 use Rattle.machine.specs.Events.{Event, texted, qnamed, valued, plain, eventBy, eventOf}
 use Rattle.machine.specs.Facts as facts
 use Rattle.machine.specs.Facts.{textTokens, qnameTokens, bareTokens, EventFits}
+use Rattle.machine.specs.Tables.{nameRowsIn, qnameRowsIn}
 use Rattle.machine.proofs.Facts.{every-one-of}
 use Rattle.plan.specs.Text.{textOf}
-use Rattle.classes.specs.Tables.{nameRowsIn, qnameRowsIn}
 use Rattle.meaning.specs.Meaning.{Symbol, Attribute, none-open, counted, skipped, unit, attribute, value, qname, declares, closed, unless, shownAs, namedSymbols, plainSymbols, symbolsOf, attributeAfter, opens, closes}
 use Rattle.meaning.specs.Codes.{mark, both, codesOf}
 use Rattle.meaning.proofs.Codes.{codes-append}
@@ -258,7 +259,7 @@ module _ {doc names qnames events classes marks : List ℕ} {rows qrows count : 
     n = named-row d a from to
 
     index : (1 ≤ a) × (a ≤ 1024)
-    index = (from, omega (arith, d .qfew))
+    index = (from, omega (arith, d .filled .qfew))
 
     referred : (k : ℕ) → eqb k 0xF2 ≡ false → (isValue k ≡ true → (k ≡ 0x8C → ⊥) → ⊥) → RowFits doc k a 0
     referred k h g =
@@ -344,7 +345,7 @@ module _ {doc names qnames events classes marks : List ℕ} {rows qrows count : 
             attribute = λ e. clash k 0xF6 f6 e;
             qname = λ e. clash k 0x8C no e;
             chunk = λ e. clash k 0xF2 f2 e;
-            value = λ e f. (h, law, omega (arith, d .short));
+            value = λ e f. (h, law, omega (arith, d .filled .short));
           };
         }
 
@@ -365,21 +366,21 @@ module _ {doc names qnames events classes marks : List ℕ} {rows qrows count : 
   says (facts.texted {token = k} {place = p} {a = a} {units = u} t e) =
       let i = text-there doc (p + 1) e in
       every-one-of textTokens (λ (x : ℕ). Says (event x p a u) (eventOf doc (nameRowsIn rows names) (qnameRowsIn qrows qnames) (event x p a u))) k
-      (facts.first (words 0xFE p a u (other 0xFE refl refl refl refl refl refl refl)) (facts.first (words 0xFD p a u (other 0xFD refl refl refl refl refl refl refl))
-      (facts.first (words 0xFC p a u (other 0xFC refl refl refl refl refl refl refl)) (facts.first (words 0xFB p a u (other 0xFB refl refl refl refl refl refl refl))
-      (facts.first (words 0xFA p a u (other 0xFA refl refl refl refl refl refl refl)) (facts.first (words 0xF9 p a u (other 0xF9 refl refl refl refl refl refl refl))
-      (facts.first (words 0xF3 p a u (other 0xF3 refl refl refl refl refl refl refl)) (facts.first (says-chunk p a u (i .1)) facts.none)))))))) t
+      (first (words 0xFE p a u (other 0xFE refl refl refl refl refl refl refl)) (first (words 0xFD p a u (other 0xFD refl refl refl refl refl refl refl))
+      (first (words 0xFC p a u (other 0xFC refl refl refl refl refl refl refl)) (first (words 0xFB p a u (other 0xFB refl refl refl refl refl refl refl))
+      (first (words 0xFA p a u (other 0xFA refl refl refl refl refl refl refl)) (first (words 0xF9 p a u (other 0xF9 refl refl refl refl refl refl refl))
+      (first (words 0xF3 p a u (other 0xF3 refl refl refl refl refl refl refl)) (first (says-chunk p a u (i .1)) none)))))))) t
   says (facts.pi {place = p} {row = row} {start = s} r l e) = quiet 0xF4 p row s _ (still _ (λ q. refl) (λ q. refl) refl refl) (other 0xF4 refl refl refl refl refl refl refl)
   says (facts.reference {token = k} {place = p} {row = row} t a b l h) =
       every-one-of qnameTokens (λ (x : ℕ). Says (event x p row 0) (eventOf doc (nameRowsIn rows names) (qnameRowsIn qrows qnames) (event x p row 0))) k
-      (facts.first (says-row 0xF8 p row _ (named-event doc names qnames rows qrows 0xF8 row a b) (says-element p row a b))
-      (facts.first (says-row 0xF6 p row _ (named-event doc names qnames rows qrows 0xF6 row a b) (says-attribute p row a b))
-      (facts.first (says-row 0x8C p row _ (named-event doc names qnames rows qrows 0x8C row a b) (says-qname p row a b)) facts.none))) t
+      (first (says-row 0xF8 p row _ (named-event doc names qnames rows qrows 0xF8 row a b) (says-element p row a b))
+      (first (says-row 0xF6 p row _ (named-event doc names qnames rows qrows 0xF6 row a b) (says-attribute p row a b))
+      (first (says-row 0x8C p row _ (named-event doc names qnames rows qrows 0x8C row a b) (says-qname p row a b)) none))) t
   says (facts.nested {place = p} {version = v} a b) = quiet 0xEC p v 0 _ (still _ (λ q. refl) (λ q. refl) refl refl) (other 0xEC refl refl refl refl refl refl refl)
   says (facts.bare {token = k} {place = p} t) =
       every-one-of bareTokens (λ (x : ℕ). Says (event x p 0 0) (eventOf doc (nameRowsIn rows names) (qnameRowsIn qrows qnames) (event x p 0 0))) k
-      (facts.first (says-end p) (facts.first (says-closing p) (facts.first (none-of 0xF1 p (other 0xF1 refl refl refl refl refl refl refl))
-      (facts.first (none-of 0xEB p (other 0xEB refl refl refl refl refl refl refl)) facts.none)))) t
+      (first (says-end p) (first (says-closing p) (first (none-of 0xF1 p (other 0xF1 refl refl refl refl refl refl refl))
+      (first (none-of 0xEB p (other 0xEB refl refl refl refl refl refl refl)) none)))) t
   says (facts.value {token = k} {place = p} {a = a} {size = n} c e) =
       let i = payload-there doc (shapeOf k) p e in
       let l = payload-lawful (shapeOf k) doc p e in

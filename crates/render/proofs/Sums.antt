@@ -7,7 +7,7 @@ use native.Mathlib.Omega.{arith}
 use native.Mathlib.Nat.{add-zero}
 use lib.ListN.{length, getD, take, drop, length-append, length-map, List·getD-append}
 use lib.Seq.{sets, sets-eq, take-at, drop-at, length-sets}
-use Rattle.hash.specs.Hash.{hashFrom, hashOf}
+use Rattle.hash.specs.Hash.{hashFrom, hashOf, seed}
 use Rattle.hash.proofs.Hashes.{hash-append}
 use Rattle.twins.specs.Parts.{Cut, partAt, values, partsOf}
 
@@ -63,9 +63,9 @@ pub hashes-new : (s : Bool) (done : List (List ℕ)) (cur : List ℕ) (h : ℕ) 
 hashes-new true done cur h e = sym (hash-snoc done cur ∙ rw (← e))
 hashes-new false done cur h e = append-nil (map hashOf done)
 
-pub hash-new : (s : Bool) (cur x : List ℕ) (h : ℕ) → h ≡ hashOf cur → hashFrom (cond s 88172645463325252 h) x ≡ hashOf (cond s x (cur ++ x))
+pub hash-new : (s : Bool) (cur x : List ℕ) (h : ℕ) → h ≡ hashOf cur → hashFrom (cond s seed h) x ≡ hashOf (cond s x (cur ++ x))
 hash-new true cur x h e = refl
-hash-new false cur x h e = ap (λ (y : ℕ). hashFrom y x) e ∙ sym (hash-append 88172645463325252 cur x)
+hash-new false cur x h e = ap (λ (y : ℕ). hashFrom y x) e ∙ sym (hash-append seed cur x)
 
 pub flat-new : (s : Bool) (done : List (List ℕ)) (cur x : List ℕ) → (flat done ++ cur) ++ x ≡ flat (cond s (done ++ (cur ∷ [])) done) ++ cond s x (cur ++ x)
 flat-new true done cur x = ap (λ (l : List ℕ). l ++ x) (sym (flat-snoc done cur))

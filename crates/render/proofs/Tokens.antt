@@ -8,6 +8,7 @@ use native.Mathlib.Omega.{arith}
 use lib.Dec.{eqb, ltb}
 use lib.ListN.{length}
 use borrow.Author.Tests.{eqb-true, ltb-true}
+use Rattle.sequences.specs.Members.{none, first}
 use Rattle.sequences.proofs.Tests.{and-left, and-right}
 use Rattle.token.specs.Tokens.{Token, token, tokens, find, classOf, shapeOf}
 use Rattle.token.specs.declared.Class.{Class}
@@ -99,15 +100,15 @@ module _ (doc : List ℕ) where
     fits-room (facts.texted {token = k} {place = p} {a = a} {units = u} t e) =
         let i = text-there (p + 1) e in
         every-one-of textTokens (λ (x : ℕ). roomBy x u + 5 * p ≤ 5 * (a + 2 * u) + 2) k
-        (facts.first (omega arith) (facts.first (omega arith) (facts.first (omega arith) (facts.first (omega arith)
-        (facts.first (omega arith) (facts.first (omega arith) (facts.first (omega arith) (facts.first (omega arith) facts.none)))))))) t
+        (first (omega arith) (first (omega arith) (first (omega arith) (first (omega arith)
+        (first (omega arith) (first (omega arith) (first (omega arith) (first (omega arith) none)))))))) t
     fits-room (facts.pi {place = p} {start = s} r l e) = let i = text-there s e in omega arith
     fits-room (facts.reference {token = k} {place = p} {next = next} t a b l h) =
-        every-one-of qnameTokens (λ (x : ℕ). roomBy x 0 + 5 * p ≤ 5 * next + 2) k (facts.first (omega arith) (facts.first (omega arith) (facts.first (omega arith) facts.none))) t
+        every-one-of qnameTokens (λ (x : ℕ). roomBy x 0 + 5 * p ≤ 5 * next + 2) k (first (omega arith) (first (omega arith) (first (omega arith) none))) t
     fits-room (facts.nested a b) = omega arith
     fits-room (facts.bare {token = k} {place = p} t) =
         every-one-of bareTokens (λ (x : ℕ). roomBy x 0 + 5 * p ≤ 5 * (p + 1) + 2) k
-        (facts.first (omega arith) (facts.first (omega arith) (facts.first (omega arith) (facts.first (omega arith) facts.none)))) t
+        (first (omega arith) (first (omega arith) (first (omega arith) (first (omega arith) none)))) t
     fits-room (facts.value {token = k} {place = p} {a = a} {size = s} c e) =
         let i = payload-there (shapeOf k) p e in
         let l = value-code k c in

@@ -1,5 +1,5 @@
--- What a row of events adds to the numbers of its record, by its token. An open attribute is a number: 1 where it counts, 2
--- where it does not, 0 where none is open.
+-- Serves the code. What a row of events adds to the numbers of its record, by its token. An open attribute is a number: 1 where
+-- it counts, 2 where it does not, 0 where none is open.
 use Prim.Native.Nat.{ℕ, _+_, _-_, _*_, _≤_}
 use mathlib.Core.Path.{_≡_}
 use mathlib.Core.Bool.{Bool, true, false, cond}
@@ -8,6 +8,7 @@ use lib.Dec.{eqb, ltb}
 use lib.ListN.{length}
 use Rattle.sequences.specs.Lists.{part, unitsOf}
 use Rattle.token.specs.Tokens.{shapeOf}
+use Rattle.token.specs.Codes.{XSD-QNAME, ELEMENT-TOKEN, ATTRIBUTE-TOKEN, ENDATTRIBUTES-TOKEN, ENDELEMENT-TOKEN, CDATA-TOKEN}
 use Rattle.rules.specs.Rules.{lawful}
 use Rattle.plan.specs.Text.{textOf}
 use Rattle.meaning.specs.Meaning.{Attribute, none-open, counted, skipped}
@@ -31,7 +32,7 @@ closeBy q = cond (eqb q 1) (mark 4 0 ∷ []) []
 -- XSD-QNAME, or another value
 unfoldable pub countedBy : List ℕ → List ℕ → ℕ → ℕ → ℕ → List ℕ
 countedBy doc marks token a b =
-    cond (eqb token 0x8C) ((openingIn marks a + 2) ∷ [])
+    cond (eqb token XSD-QNAME) ((openingIn marks a + 2) ∷ [])
     (cond (isValue token) (valueCodes token (part doc a b) (textOf token (part doc a b))) [])
 
 -- none of a skipped attribute
@@ -40,11 +41,11 @@ valueBy doc marks q token a b = cond (eqb q 2) [] (countedBy doc marks token a b
 
 unfoldable pub codesBy : List ℕ → List ℕ → ℕ → ℕ → ℕ → ℕ → List ℕ
 codesBy doc marks q token a b =
-    cond (eqb token 0xF8) (openingIn marks a ∷ [])
-    (cond (eqb token 0xF6) (closeBy q ++ cond (declaredIn marks a) [] ((openingIn marks a + 1) ∷ []))
-    (cond (eqb token 0xF5) (closeBy q)
-    (cond (eqb token 0xF7) (mark 3 0 ∷ [])
-    (cond (eqb token 0xF2) (unitsOf (part doc a (2 * b))) (valueBy doc marks q token a b)))))
+    cond (eqb token ELEMENT-TOKEN) (openingIn marks a ∷ [])
+    (cond (eqb token ATTRIBUTE-TOKEN) (closeBy q ++ cond (declaredIn marks a) [] ((openingIn marks a + 1) ∷ []))
+    (cond (eqb token ENDATTRIBUTES-TOKEN) (closeBy q)
+    (cond (eqb token ENDELEMENT-TOKEN) (mark 3 0 ∷ [])
+    (cond (eqb token CDATA-TOKEN) (unitsOf (part doc a (2 * b))) (valueBy doc marks q token a b)))))
 
 -- nothing outside of a record
 abbrev pub unlessOut : ℕ → List ℕ → List ℕ
@@ -53,26 +54,26 @@ unlessOut depth l = cond (eqb depth 0) [] l
 -- outside of a record only ELEMENT counts
 unfoldable pub rowBy : List ℕ → List ℕ → ℕ → ℕ → ℕ → ℕ → ℕ → List ℕ
 rowBy doc marks depth q token a b =
-    cond (eqb token 0xF8) (openingIn marks a ∷ []) (unlessOut depth (codesBy doc marks q token a b))
+    cond (eqb token ELEMENT-TOKEN) (openingIn marks a ∷ []) (unlessOut depth (codesBy doc marks q token a b))
 
 -- a record begins; elements open after the row; the attribute open after it
 abbrev pub beginsBy : ℕ → ℕ → Bool
-beginsBy depth token = cond (eqb token 0xF8) (eqb depth 0) false
+beginsBy depth token = cond (eqb token ELEMENT-TOKEN) (eqb depth 0) false
 
 abbrev pub depthBy : ℕ → ℕ → ℕ
-depthBy depth token = cond (eqb token 0xF8) (depth + 1) (cond (eqb token 0xF7) (depth - 1) depth)
+depthBy depth token = cond (eqb token ELEMENT-TOKEN) (depth + 1) (cond (eqb token ENDELEMENT-TOKEN) (depth - 1) depth)
 
 unfoldable pub attributeBy : List ℕ → ℕ → ℕ → ℕ → ℕ
-attributeBy marks q token a = cond (eqb token 0xF6) (cond (declaredIn marks a) 2 1) (cond (eqb token 0xF5) 0 q)
+attributeBy marks q token a = cond (eqb token ATTRIBUTE-TOKEN) (cond (declaredIn marks a) 2 1) (cond (eqb token ENDATTRIBUTES-TOKEN) 0 q)
 
 -- the most numbers that a row adds: two marks, or the units of a text
 abbrev pub roomBy : ℕ → ℕ → ℕ
-roomBy token b = 2 + cond (eqb token 0xF2) b (cond (isValue token) (4 + 5 * b) 0)
+roomBy token b = 2 + cond (eqb token CDATA-TOKEN) b (cond (isValue token) (4 + 5 * b) 0)
 
 -- what a row asks of the document and the table of marks
 pub record RowFits (doc : List ℕ) (token a b : ℕ) : Type 0 where
-  pub element : token ≡ 0xF8 → (1 ≤ a) × (a ≤ 1024)
-  pub attribute : token ≡ 0xF6 → (1 ≤ a) × (a ≤ 1024)
-  pub qname : token ≡ 0x8C → (1 ≤ a) × (a ≤ 1024)
-  pub chunk : token ≡ 0xF2 → a + 2 * b ≤ length doc
-  pub value : isValue token ≡ true → (token ≡ 0x8C → ⊥) → (a + b ≤ length doc) × (lawful (shapeOf token) (part doc a b) ≡ true) × (b ≤ 65536)
+  pub element : token ≡ ELEMENT-TOKEN → (1 ≤ a) × (a ≤ 1024)
+  pub attribute : token ≡ ATTRIBUTE-TOKEN → (1 ≤ a) × (a ≤ 1024)
+  pub qname : token ≡ XSD-QNAME → (1 ≤ a) × (a ≤ 1024)
+  pub chunk : token ≡ CDATA-TOKEN → a + 2 * b ≤ length doc
+  pub value : isValue token ≡ true → (token ≡ XSD-QNAME → ⊥) → (a + b ≤ length doc) × (lawful (shapeOf token) (part doc a b) ≡ true) × (b ≤ 65536)

@@ -1,12 +1,10 @@
--- The meanings of all records as numbers, one after the other in one array, with a boundary for each record.
+-- Serves the code. The meanings of all records as numbers, one after the other in one array, with a boundary for each record.
 use Prim.Native.Nat.{ℕ, _+_, _*_, _≤_, _<_}
 use mathlib.Core.Path.{_≡_}
 use mathlib.Core.List.{List, map}
 use lib.ListN.{length, getD}
 use Rattle.sequences.specs.Lists.{Front}
-use Rattle.machine.specs.Events.{Event, eventOf}
-use Rattle.machine.specs.Facts.{Every, NameFits, QnameFits, Placed}
-use Rattle.classes.specs.Tables.{nameRowsIn, qnameRowsIn, eventRowsIn}
+use Rattle.machine.specs.Tables.{nameRowsIn, eventsIn, Filled}
 use Rattle.classes.specs.Classes.{nameClasses}
 use Rattle.meaning.specs.Meaning.{meanings}
 use Rattle.meaning.specs.Codes.{codesOf}
@@ -14,24 +12,9 @@ use Rattle.twins.specs.Parts.{partAt, partsOf, Cut}
 use Rattle.hash.specs.Hash.{hashOf}
 use Rattle.marks.specs.Names.{classIn}
 
--- the events of so many rows, names by text
-unfoldable pub eventsIn : List ℕ → List ℕ → List ℕ → List ℕ → ℕ → ℕ → ℕ → List Event
-eventsIn doc names qnames events rows qrows count = map (eventOf doc (nameRowsIn rows names) (qnameRowsIn qrows qnames)) (eventRowsIn count events)
-
--- rows that reading has made of the document, and the classes of the names
+-- the tables after an accepted reading, and the classes of the names
 pub record Renderable (doc names qnames events classes : List ℕ) (rows qrows count : ℕ) : Type 0 where
-  pub short : length doc ≤ 65536
-  pub few : rows ≤ 1024
-  pub long : 2 * rows ≤ length names
-  pub qfew : qrows ≤ 1024
-  pub qlong : 3 * qrows ≤ length qnames
-  pub efew : count ≤ 4096
-  pub elong : 4 * count ≤ length events
-  pub names-fit : Every (NameFits (length doc)) (nameRowsIn rows names)
-  pub qnames-fit : Every (QnameFits rows) (qnameRowsIn qrows qnames)
-  pub last : ℕ
-  pub inside : last ≤ length doc
-  pub events-fit : Placed doc rows qrows (eventRowsIn count events) last
+  pub filled : Filled doc names qnames events rows qrows count
   pub classes-long : length classes ≡ 1024
   pub classes-are : Front (nameClasses doc (nameRowsIn rows names)) classes
 

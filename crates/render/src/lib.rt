@@ -10,11 +10,26 @@ ghost use Rattle.sequences.specs.Lists.{part, unitsOf};
 ghost use Rattle.base64.specs.Base64.{Alphabet};
 ghost use Rattle.meaning.specs.Codes.{mark};
 ghost use Rattle.symbols.specs.Store.{PutHashed};
-ghost use Rattle.marks.specs.Marks.{openingIn, declaredIn};
+ghost use Rattle.marks.specs.Marks.{openingIn, declaredIn, declaring};
 ghost use Rattle.render.specs.Codes.{closeBy, countedBy, valueBy, unlessOut, rowBy, depthBy, attributeBy, roomBy, RowFits};
 ghost use Rattle.render.specs.Effects.{cursorOf, movedTo, attributed, Begun, RowPut, RowDone};
 ghost use Rattle.render.specs.Render.{Renderable, Rendered, roomFor};
+ghost use Rattle.token.specs.Codes.{ELEMENT-TOKEN, ENDELEMENT-TOKEN};
+ghost use Rattle.token.specs.Answers.{eventWidth};
 use symbols::Cursor;
+
+// Codes of tokens (004, section 2), as the table of events has them.
+const ELEMENT: usize = token::ELEMENT_TOKEN as usize;
+
+const ENDELEMENT: usize = token::ENDELEMENT_TOKEN as usize;
+
+const ATTRIBUTE: usize = token::ATTRIBUTE_TOKEN as usize;
+
+const ENDATTRIBUTES: usize = token::ENDATTRIBUTES_TOKEN as usize;
+
+const CDATA: usize = token::CDATA_TOKEN as usize;
+
+const QNAME: usize = token::XSD_QNAME as usize;
 
 // ---- rows
 
@@ -63,7 +78,11 @@ fn with_attribute(p: Progress, attribute: usize) -> Progress
 }
 
 // Where no element is open a record begins: the place of its first number, and the hash of the record before it.
-fn begin(starts: &mut [usize; 2049], hashes: &mut [u64; 2049], p: Progress) -> Progress
+fn begin(
+    starts: &mut [usize; twins::BOUNDS],
+    hashes: &mut [u64; twins::BOUNDS],
+    p: Progress,
+) -> Progress
     requires { ⌜ (p .records < 2049) × (length (now starts) ≡ 2049) × (length (now hashes) ≡ 2049) ⌝ }
     ensures { λ r. ⌜ Begun (now (starts .entry)) (now (hashes .entry)) p (now (starts .exit)) (now (hashes .exit)) r ⌝ }
 {
@@ -83,11 +102,11 @@ fn begin(starts: &mut [usize; 2049], hashes: &mut [u64; 2049], p: Progress) -> P
 }
 
 // ELEMENT.
-fn open(marks: &[u32; 1024], syms: &mut [u32], p: Progress, row: usize) -> Progress
+fn open(marks: &[u32; token::QNAME_ROWS], syms: &mut [u32], p: Progress, row: usize) -> Progress
     requires { ⌜ (1 ≤ row) × (row ≤ 1024) × (p .at < length (now syms)) × (p .depth ≤ 4096) ⌝ }
     ensures { λ r. ⌜ RowPut (openingIn (now (marks .entry)) row ∷ []) (p .attribute) (p .depth + 1) (now (syms .entry)) p (now (syms .exit)) r ⌝ }
 {
-    let mark = marks[row - 1] % 2147483648;
+    let mark = marks[row - 1] % marks::DECLARING;
     let i = symbols::put_one(syms, cursor_of(p), mark);
     Progress {
         at: i.at,
@@ -106,7 +125,7 @@ fn close(syms: &mut [u32], p: Progress) -> Progress
     if p.depth == 0 {
         return p;
     }
-    let i = symbols::put_one(syms, cursor_of(p), 65539);
+    let i = symbols::put_one(syms, cursor_of(p), symbols::END_MARK);
     Progress {
         at: i.at,
         hash: i.hash,
@@ -122,20 +141,25 @@ fn put_close(syms: &mut [u32], i: Cursor, attribute: usize) -> Cursor
     ensures { λ r. ⌜ PutHashed (now (syms .entry)) i (closeBy attribute) (now (syms .exit)) r ⌝ }
 {
     if attribute == 1 {
-        return symbols::put_one(syms, i, 65540);
+        return symbols::put_one(syms, i, symbols::CLOSING_MARK);
     }
     i
 }
 
 // 2 where the mark is that of a qname that declares a prefix, else 1.
 fn counts(mark: u32) -> usize
-    ensures { λ r. ⌜ r ≡ cond (leb 2147483648 mark) 2 1 ⌝ }
+    ensures { λ r. ⌜ r ≡ cond (leb declaring mark) 2 1 ⌝ }
 {
-    if 2147483648 <= mark { 2 } else { 1 }
+    if marks::DECLARING <= mark { 2 } else { 1 }
 }
 
 // ATTRIBUTE: it closes the one before; one that declares a prefix has no mark.
-fn put_attribute(marks: &[u32; 1024], syms: &mut [u32], p: Progress, row: usize) -> Progress
+fn put_attribute(
+    marks: &[u32; token::QNAME_ROWS],
+    syms: &mut [u32],
+    p: Progress,
+    row: usize,
+) -> Progress
     requires { ⌜ (1 ≤ row) × (row ≤ 1024) × (p .at + 1 < length (now syms)) ⌝ }
     ensures { λ r. ⌜ RowPut (unlessOut (p .depth) (closeBy (p .attribute) ++ cond (declaredIn (now (marks .entry)) row) [] ((openingIn (now (marks .entry)) row + 1) ∷ [])))
         (cond (declaredIn (now (marks .entry)) row) 2 1) (p .depth) (now (syms .entry)) p (now (syms .exit)) r ⌝ }
@@ -145,7 +169,7 @@ fn put_attribute(marks: &[u32; 1024], syms: &mut [u32], p: Progress, row: usize)
         return with_attribute(p, counts(mark));
     }
     let i = put_close(syms, cursor_of(p), p.attribute);
-    if 2147483648 <= mark {
+    if marks::DECLARING <= mark {
         return with_attribute(moved(p, i), 2);
     }
     with_attribute(moved(p, symbols::put_one(syms, i, mark + 1)), 1)
@@ -178,7 +202,7 @@ fn put_chunk(doc: &[u8], syms: &mut [u32], p: Progress, place: usize, units: usi
 fn put_valued(
     alphabet: &[u8; 64],
     doc: &[u8],
-    marks: &[u32; 1024],
+    marks: &[u32; token::QNAME_ROWS],
     syms: &mut [u32],
     i: Cursor,
     token: usize,
@@ -189,8 +213,8 @@ fn put_valued(
         × (i .at + roomBy token b ≤ length (now syms)) ⌝ }
     ensures { λ r. ⌜ PutHashed (now (syms .entry)) i (countedBy (now (doc .entry)) (now (marks .entry)) token a b) (now (syms .exit)) r ⌝ }
 {
-    if token == 0x8C {
-        return symbols::put_one(syms, i, marks[a - 1] % 2147483648 + 2);
+    if token == QNAME {
+        return symbols::put_one(syms, i, marks[a - 1] % marks::DECLARING + 2);
     }
     if token == 0 {
         return i;
@@ -203,7 +227,7 @@ fn put_valued(
 fn put_value(
     alphabet: &[u8; 64],
     doc: &[u8],
-    marks: &[u32; 1024],
+    marks: &[u32; token::QNAME_ROWS],
     syms: &mut [u32],
     p: Progress,
     token: usize,
@@ -230,7 +254,7 @@ fn put_value(
 fn put_other(
     alphabet: &[u8; 64],
     doc: &[u8],
-    marks: &[u32; 1024],
+    marks: &[u32; token::QNAME_ROWS],
     syms: &mut [u32],
     p: Progress,
     token: usize,
@@ -238,7 +262,7 @@ fn put_other(
     b: usize,
 ) -> Progress
     requires { ⌜ Alphabet (now alphabet) × RowFits (now doc) token a b × (p .at + roomBy token b ≤ length (now syms))
-        × (token ≡ 0xF8 → ⊥) × (token ≡ 0xF7 → ⊥) ⌝ }
+        × (token ≡ ELEMENT-TOKEN → ⊥) × (token ≡ ENDELEMENT-TOKEN → ⊥) ⌝ }
     ensures { λ r. ⌜ RowPut (rowBy (now (doc .entry)) (now (marks .entry)) (p .depth) (p .attribute) token a b) (attributeBy (now (marks .entry)) (p .attribute) token a)
         (depthBy (p .depth) token) (now (syms .entry)) p (now (syms .exit)) r ⌝ }
 {
@@ -246,9 +270,9 @@ fn put_other(
         return put_value(alphabet, doc, marks, syms, p, token, a, b);
     }
     match token {
-        0xF6 => put_attribute(marks, syms, p, a),
-        0xF5 => end_attributes(syms, p),
-        0xF2 => put_chunk(doc, syms, p, a, b),
+        ATTRIBUTE => put_attribute(marks, syms, p, a),
+        ENDATTRIBUTES => end_attributes(syms, p),
+        CDATA => put_chunk(doc, syms, p, a, b),
         _ => p,
     }
 }
@@ -258,28 +282,28 @@ fn put_row(
     alphabet: &[u8; 64],
     doc: &[u8],
     events: &[u32],
-    marks: &[u32; 1024],
+    marks: &[u32; token::QNAME_ROWS],
     syms: &mut [u32],
-    starts: &mut [usize; 2049],
-    hashes: &mut [u64; 2049],
+    starts: &mut [usize; twins::BOUNDS],
+    hashes: &mut [u64; twins::BOUNDS],
     p: Progress,
     k: usize,
     token: usize,
     a: usize,
 ) -> Progress
-    requires { ⌜ Alphabet (now alphabet) × RowFits (now doc) token a (getD (now events) (4 * k + 3) 0)
-        × (p .at + roomBy token (getD (now events) (4 * k + 3) 0) ≤ length (now syms)) × (k < 4096) × (4 * k + 4 ≤ length (now events))
+    requires { ⌜ Alphabet (now alphabet) × RowFits (now doc) token a (getD (now events) (eventWidth * k + 3) 0)
+        × (p .at + roomBy token (getD (now events) (eventWidth * k + 3) 0) ≤ length (now syms)) × (k < 4096) × (eventWidth * k + eventWidth ≤ length (now events))
         × (p .records < 2049) × (p .depth ≤ 4096) × (length (now starts) ≡ 2049) × (length (now hashes) ≡ 2049) ⌝ }
-    ensures { λ r. ⌜ RowDone (now (doc .entry)) (now (marks .entry)) token a (getD (now (events .entry)) (4 * k + 3) 0)
+    ensures { λ r. ⌜ RowDone (now (doc .entry)) (now (marks .entry)) token a (getD (now (events .entry)) (eventWidth * k + 3) 0)
         (now (syms .entry)) (now (starts .entry)) (now (hashes .entry)) p (now (syms .exit)) (now (starts .exit)) (now (hashes .exit)) r ⌝ }
 {
-    if token == 0xF8 {
+    if token == ELEMENT {
         return open(marks, syms, begin(starts, hashes, p), a);
     }
-    if token == 0xF7 {
+    if token == ENDELEMENT {
         return close(syms, p);
     }
-    let b = slices::cell(events, 4 * k + 3);
+    let b = slices::cell(events, token::EVENT_WIDTH * k + 3);
     put_other(alphabet, doc, marks, syms, p, token, a, b)
 }
 
@@ -290,13 +314,13 @@ pub fn render(
     names: &[u32],
     qnames: &[u32],
     events: &[u32],
-    classes: &[u32; 1024],
+    classes: &[u32; token::NAME_ROWS],
     rows: usize,
     qrows: usize,
     count: usize,
     syms: &mut [u32],
-    starts: &mut [usize; 2049],
-    hashes: &mut [u64; 2049],
+    starts: &mut [usize; twins::BOUNDS],
+    hashes: &mut [u64; twins::BOUNDS],
 ) -> usize
     requires { ⌜ Renderable (now doc) (now names) (now qnames) (now events) (now classes) rows qrows count
         × (roomFor (length (now doc)) count ≤ length (now syms)) × (length (now starts) ≡ 2049) × (length (now hashes) ≡ 2049) ⌝ }
@@ -304,7 +328,7 @@ pub fn render(
         (now (syms .exit)) (now (starts .exit)) (now (hashes .exit)) r ⌝ }
 {
     let alphabet = base64::alphabet();
-    let mut marks = [1u32; 1024];
+    let mut marks = [1u32; token::QNAME_ROWS];
     marks::fill(doc, names, qnames, classes, rows, qrows, &mut marks);
     let mut k = 0;
     let mut p = Progress {
@@ -315,8 +339,8 @@ pub fn render(
         attribute: 0,
     };
     while k < count {
-        let token = slices::cell(events, 4 * k);
-        let a = slices::cell(events, 4 * k + 2);
+        let token = slices::cell(events, token::EVENT_WIDTH * k);
+        let a = slices::cell(events, token::EVENT_WIDTH * k + 2);
         p = put_row(
             &alphabet,
             doc,

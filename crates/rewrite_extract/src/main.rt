@@ -30,9 +30,9 @@ fn main() {
     if !console::input_whole(size, 65537) {
         return;
     }
-    let mut names = [0u32; 2048];
-    let mut qnames = [0u32; 3072];
-    let mut events = [0u32; 16384];
+    let mut names = [0u32; token::NAME_TABLE];
+    let mut qnames = [0u32; token::QNAME_TABLE];
+    let mut events = [0u32; token::EVENT_TABLE];
     let mut out = [0u8; 65536];
     let answer = rewriter::rewrite(&doc[..size], &mut names, &mut qnames, &mut events, &mut out);
     if answer.number != 0 {

@@ -6,14 +6,15 @@ use mathlib.Core.Option.{some}
 use mathlib.Core.List.{List, [], _∷_, _++_, map}
 use native.Mathlib.Omega.{arith}
 use lib.ListN.{length, getElem?, length-map}
+use Rattle.sequences.specs.Lists.{same}
 use Rattle.number.specs.Number.{shortest}
 use Rattle.value.specs.Fields.{textAt}
 use Rattle.machine.specs.Rows.{NameRow, QnameRow}
 use Rattle.machine.specs.Events.{Event, pi, qnamed, nameText, dataIn}
-use Rattle.form.specs.Places.{Triple, sameText, sameTriple, place, numberOf, qnumberOf}
-use Rattle.form.specs.Canonical.{counted, Defined, defined, Scopes, scopes, emit, onward, left, definition, qnameDefinition}
+use Rattle.form.specs.Places.{Triple, sameTriple, place, numberOf, qnumberOf}
+use Rattle.form.specs.Canonical.{withUnits, Defined, defined, Scopes, scopes, emit, scopesAfter, left, definition, qnameDefinition}
 use Rattle.classes.specs.Classes.{textsOf, tripleOf, triplesOf}
-use Rattle.form_slots.specs.Slots.{classAt, slotsAfter, partsAt, Cleared}
+use Rattle.form_slots.specs.Slots.{slotsAfter, partsAt, Cleared}
 use Rattle.form_names.specs.Naming.{namesAfter}
 use Rattle.form_names.proofs.Marks.{Marks, Agree}
 use Rattle.form_names.proofs.Names.{Has, Classed, Has3, partsOf, bytes-are, slots-are, number-is, has-grown, number-grown, slots-agree, slots-long, names-agree, names-long}
@@ -22,7 +23,8 @@ use Rattle.form_names.proofs.Layers as layers
 use Rattle.form_names.proofs.Layers.{Layers, layers-agree, marks-none, cleared-agree}
 use Rattle.form_items.specs.declared.Item.{Item}
 use Rattle.form_items.specs.declared.Item.the-variants.{Pi, Refer, Leave}
-use Rattle.form_items.specs.Walk.{Tables, piBytes, referBytes, bytesFor, NamesKept, QnamesKept, depthAfter}
+use Rattle.form_items.specs.Walk.{Tables, piBytes, referBytes, bytesFor, NamesKept, QnamesKept, nestedAfter}
+use Rattle.classes.specs.Search.{classAt}
 use Rattle.rewriter.proofs.ItemLaws as items
 use Rattle.rewriter.proofs.ItemLaws.{Meets}
 
@@ -46,7 +48,7 @@ qnamesOf s = s .here .qnames ∷ map (λ (d : Defined). d .qnames) (s .outer)
 
 -- the slots say what the open documents of the form have defined
 pub record Kept (t : Tables) (N : List NameRow) (Q : List QnameRow) (slots qslots : List ℕ) (s : Scopes) (depth : ℕ) : Type 0 where
-  pub names : Layers sameText (textsOf (t .doc) N) slots (namesOf s)
+  pub names : Layers same (textsOf (t .doc) N) slots (namesOf s)
   pub qnames : Layers sameTriple (triplesOf (t .doc) N Q) qslots (qnamesOf s)
   pub deep : length (s .outer) ≡ depth
   pub long : length slots ≡ 9225
@@ -55,7 +57,7 @@ pub record Kept (t : Tables) (N : List NameRow) (Q : List QnameRow) (slots qslot
 -- the bytes of an item are those of its event, and the slots are kept
 pub record Acts (t : Tables) (N : List NameRow) (Q : List QnameRow) (slots qslots slots′ qslots′ : List ℕ) (s : Scopes) (depth : ℕ) (item : Item) (e : Event) : Type 0 where
   pub bytes : bytesFor t slots qslots (1025 * depth) item ≡ emit (s .here) e
-  pub kept : Kept t N Q slots′ qslots′ (onward s e) (depthAfter item depth)
+  pub kept : Kept t N Q slots′ qslots′ (scopesAfter s e) (nestedAfter item depth)
 
 top : {A : Type 0} (same : A → A → Bool) (T : List A) {slots : List ℕ} {c : List A} {cs : List (List A)} → Layers same T slots (c ∷ cs) → Marks same T c slots (1025 * length cs)
 top same T (layers.layer m l) = m
@@ -83,8 +85,8 @@ module _ (t : Tables) (N : List NameRow) (Q : List QnameRow) (said : Said t N Q)
   qnames-deep : length outerQnames ≡ depth
   qnames-deep = length-map (s .outer) (λ (d : Defined). d .qnames) ∙ kept .deep
 
-  marks : Marks sameText T (s .here .names) slots (1025 * depth)
-  marks = rw names-deep at (top sameText T (kept .names))
+  marks : Marks same T (s .here .names) slots (1025 * depth)
+  marks = rw names-deep at (top same T (kept .names))
 
   qmarks : Marks sameTriple QT (s .here .qnames) qslots (1025 * depth)
   qmarks = rw qnames-deep at (top sameTriple QT (kept .qnames))
@@ -93,11 +95,11 @@ module _ (t : Tables) (N : List NameRow) (Q : List QnameRow) (said : Said t N Q)
   in-slots = omega arith
 
   -- a new top region over the regions under it
-  names-over : {slots′ : List ℕ} {c : List (List ℕ)} → Agree (1025 * depth) slots slots′ → Marks sameText T c slots′ (1025 * depth) → Layers sameText T slots′ (c ∷ outerNames)
+  names-over : {slots′ : List ℕ} {c : List (List ℕ)} → Agree (1025 * depth) slots slots′ → Marks same T c slots′ (1025 * depth) → Layers same T slots′ (c ∷ outerNames)
   names-over {slots′} {c} g m =
       let n = sym names-deep in
       let g′ : Agree (1025 * length outerNames) slots slots′ = rw n at g in
-      layers.layer {cs = outerNames} (rw n at m) (layers-agree sameText T (said .few) outerNames g′ (under sameText T (kept .names)))
+      layers.layer {cs = outerNames} (rw n at m) (layers-agree same T (said .few) outerNames g′ (under same T (kept .names)))
 
   qnames-over : {slots′ : List ℕ} {c : List Triple} → Agree (1025 * depth) qslots slots′ → Marks sameTriple QT c slots′ (1025 * depth) → Layers sameTriple QT slots′ (c ∷ outerQnames)
   qnames-over {slots′} {c} g m =
@@ -108,7 +110,7 @@ module _ (t : Tables) (N : List NameRow) (Q : List QnameRow) (said : Said t N Q)
   -- a PI
   pi-bytes : (x : List ℕ) (class start : ℕ) → Has T x → class ≡ numberOf T x
       → piBytes t slots (1025 * depth) class start
-      ≡ definition (s .here .names) x ++ (0xF4 ∷ (shortest (numberOf (s .here .names) x) ++ counted (dataIn (t .doc) (textAt 5 (t .doc) start))))
+      ≡ definition (s .here .names) x ++ (0xF4 ∷ (shortest (numberOf (s .here .names) x) ++ withUnits (dataIn (t .doc) (textAt 5 (t .doc) start))))
   unfolding piBytes
   pi-bytes x class start h e =
       let b : 1025 * depth + 1025 ≤ length slots = rw (kept .long) in-slots in
@@ -188,7 +190,7 @@ module _ (t : Tables) (N : List NameRow) (Q : List QnameRow) (said : Said t N Q)
       let e′ : Cleared slots slots′ (1025 * length (namesOf s)) = rw i at e in
       let f′ : Cleared qslots qslots′ (1025 * length (qnamesOf s)) = rw j at f in
       record {
-        names = layers.layer {cs = namesOf s} (marks-none sameText T (said .few) e′) (layers-agree sameText T (said .few) (namesOf s) (cleared-agree e′) (kept .names));
+        names = layers.layer {cs = namesOf s} (marks-none same T (said .few) e′) (layers-agree same T (said .few) (namesOf s) (cleared-agree e′) (kept .names));
         qnames = layers.layer {cs = qnamesOf s} (marks-none sameTriple QT (said .qfew) f′) (layers-agree sameTriple QT (said .qfew) (qnamesOf s) (cleared-agree f′) (kept .qnames));
         deep = let n = kept .deep in omega arith;
         long = e .long ∙ kept .long;
@@ -202,7 +204,7 @@ act-leave t N Q slots qslots slots′ qslots′ here [] depth d k e f = absurd (
 act-leave t N Q slots qslots slots′ qslots′ here (o ∷ os) depth d k e f =
     rw (e, f)
     (record {
-      names = under sameText (textsOf (t .doc) N) (k .names);
+      names = under same (textsOf (t .doc) N) (k .names);
       qnames = under sameTriple (triplesOf (t .doc) N Q) (k .qnames);
       deep = let n = k .deep in omega arith;
       long = k .long;

@@ -14,7 +14,7 @@ use Rattle.token.specs.Tokens.{classOf}
 use Rattle.token.specs.declared.Class.{Class}
 use Rattle.token.specs.declared.Class.the-variants as class
 use Rattle.machine.specs.Rows.{EventRow}
-use Rattle.machine.specs.Balance.{Opened, opened, total, innermost, raised, lowered, around, outside, only, takenBy, onto, check}
+use Rattle.machine.specs.Balance.{Opened, opened, total, innermost, raised, lowered, around, outside, only, takenBy, andThen, check}
 use Rattle.form_items.specs.declared.Item.{Item}
 use Rattle.form_items.specs.declared.Item.the-variants.{Byte, Texted, Pi, Refer, Valued, Nest, Leave}
 use Rattle.form_items.specs.Items.{itemBy, itemOf}
@@ -95,6 +95,6 @@ pub next : (o fin : Opened) (e : EventRow) (es : List EventRow) → check o (e �
 unfolding itemOf
 next o fin e es h = go (takenBy (classOf (e .token)) o) refl h
   where
-    go : (x : Option Opened) → takenBy (classOf (e .token)) o ≡ x → onto (λ c. check c es) x ≡ some fin → Next o fin e es
+    go : (x : Option Opened) → takenBy (classOf (e .token)) o ≡ x → andThen (λ c. check c es) x ≡ some fin → Next o fin e es
     go none i h = absurd (let z : _≡_ {A = ℕ} 0 1 = cc in let q : ⊥ = omega arith in q)
     go (some c) i h = record { after = c; deeper = class-deeper (classOf (e .token)) e o c i; rest = h }

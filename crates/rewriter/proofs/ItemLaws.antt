@@ -10,6 +10,7 @@ use lib.Dec.{eqb, ltb}
 use lib.ListN.{length, getElem?}
 use borrow.Author.Tests.{eqb-true, ltb-true}
 use Rattle.sequences.specs.Lists.{part}
+use Rattle.sequences.specs.Members.{none, first}
 use Rattle.sequences.proofs.Tests.{cond-if, and-left, and-right}
 use Rattle.token.specs.Tokens.{Token, token, tokens, find, classOf, shapeOf}
 use Rattle.token.specs.declared.Class.{Class}
@@ -90,17 +91,17 @@ module _ (doc : List ℕ) (N : List NameRow) (Q : List QnameRow) where
   item-meets (facts.texted {token = k} {place = p} {a = a} {units = u} t e) =
       let i = text-inside (p + 1) e in
       every-one-of textTokens (λ (x : ℕ). Meets doc N Q (itemOf (event x p a u)) (eventOf doc N Q (event x p a u))) k
-      (facts.first (written (omega arith) i) (facts.first (written (omega arith) i) (facts.first (written (omega arith) i) (facts.first (written (omega arith) i)
-      (facts.first (written (omega arith) i) (facts.first (written (omega arith) i) (facts.first (written (omega arith) i) (facts.first (written (omega arith) i) facts.none)))))))) t
+      (first (written (omega arith) i) (first (written (omega arith) i) (first (written (omega arith) i) (first (written (omega arith) i)
+      (first (written (omega arith) i) (first (written (omega arith) i) (first (written (omega arith) i) (first (written (omega arith) i) none)))))))) t
   item-meets (facts.pi {p = p} {u = u} r l e) = instruction r (record { place = p; units = u; is = e })
   item-meets (facts.reference {token = k} {place = p} {row = row} t a b l n) =
       every-one-of qnameTokens (λ (x : ℕ). Meets doc N Q (itemOf (event x p row 0)) (eventOf doc N Q (event x p row 0))) k
-      (facts.first (refer-meets 0xF8 row (omega arith) a b _ refl) (facts.first (refer-meets 0xF6 row (omega arith) a b _ refl)
-      (facts.first (refer-meets 0x8C row (omega arith) a b _ refl) facts.none))) t
+      (first (refer-meets 0xF8 row (omega arith) a b _ refl) (first (refer-meets 0xF6 row (omega arith) a b _ refl)
+      (first (refer-meets 0x8C row (omega arith) a b _ refl) none))) t
   item-meets (facts.nested a b) = nested b
   item-meets (facts.bare {token = k} {place = p} t) =
       every-one-of bareTokens (λ (x : ℕ). Meets doc N Q (itemOf (event x p 0 0)) (eventOf doc N Q (event x p 0 0))) k
-      (facts.first (bare (omega arith) refl) (facts.first (bare (omega arith) refl) (facts.first (bare (omega arith) refl) (facts.first left facts.none)))) t
+      (first (bare (omega arith) refl) (first (bare (omega arith) refl) (first (bare (omega arith) refl) (first left none)))) t
   item-meets (facts.value {token = k} {place = p} {a = a} {size = n} c e) =
       let i = payload-inside (length doc) p e (field-inside (shapeOf k) doc p) in
       by-class c (value (value-low k c) (i .1)) (not-qname k (part doc a n) (payload-lawful (shapeOf k) doc p e))
@@ -115,12 +116,12 @@ pub fits-low : {doc : List ℕ} {names qnames : ℕ} {e : EventRow} {next : ℕ}
 fits-low (facts.standalone v) = omega arith
 fits-low (facts.texted {token = k} t e) =
     every-one-of textTokens (λ (x : ℕ). x < 256) k
-    (facts.first (omega arith) (facts.first (omega arith) (facts.first (omega arith) (facts.first (omega arith)
-    (facts.first (omega arith) (facts.first (omega arith) (facts.first (omega arith) (facts.first (omega arith) facts.none)))))))) t
+    (first (omega arith) (first (omega arith) (first (omega arith) (first (omega arith)
+    (first (omega arith) (first (omega arith) (first (omega arith) (first (omega arith) none)))))))) t
 fits-low (facts.pi r l e) = omega arith
 fits-low (facts.reference {token = k} t a b l n) =
-    every-one-of qnameTokens (λ (x : ℕ). x < 256) k (facts.first (omega arith) (facts.first (omega arith) (facts.first (omega arith) facts.none))) t
+    every-one-of qnameTokens (λ (x : ℕ). x < 256) k (first (omega arith) (first (omega arith) (first (omega arith) none))) t
 fits-low (facts.nested a b) = omega arith
 fits-low (facts.bare {token = k} t) =
-    every-one-of bareTokens (λ (x : ℕ). x < 256) k (facts.first (omega arith) (facts.first (omega arith) (facts.first (omega arith) (facts.first (omega arith) facts.none)))) t
+    every-one-of bareTokens (λ (x : ℕ). x < 256) k (first (omega arith) (first (omega arith) (first (omega arith) (first (omega arith) none)))) t
 fits-low (facts.value {token = k} c e) = value-low k c

@@ -6,24 +6,27 @@ use mathlib.Core.Option.{Option, none, some}
 use mathlib.Core.List.{List, [], _∷_, _++_}
 use native.Mathlib.Omega.{arith}
 use lib.ListN.{length, getD, getElem?, drop}
+use Rattle.sequences.specs.Lists.{same}
 use Rattle.sequences.proofs.Overlay.{front-at}
 use Rattle.machine.specs.Rows.{NameRow, QnameRow, EventRow, nameRow, qnameRow, event}
 use Rattle.machine.specs.Events.{nameText, eventOf}
 use Rattle.machine.specs.Facts as facts
 use Rattle.machine.specs.Facts.{QnameFits, EventFits, Placed}
-use Rattle.form.specs.Places.{Triple, sameText, sameTriple, place, numberOf, qnumberOf}
+use Rattle.machine.specs.Tables.{nameRowsIn, qnameRowsIn, eventRowsIn}
+use Rattle.machine.proofs.Tables.{at-inside, at-some, every-at, length-name-rows, length-qname-rows, length-event-rows, name-row-at, qname-row-at, event-row-at, event-rows-from, names-inside}
+use Rattle.form.specs.Places.{Triple, sameTriple, place, numberOf, qnumberOf}
 use Rattle.form.proofs.Places.{tells-text, tells-triple, place-at, place-found}
-use Rattle.classes.specs.Tables.{nameRowsIn, qnameRowsIn, eventRowsIn}
 use Rattle.classes.specs.Classes.{rowText, textsOf, nameClasses, tripleOf, triplesOf, qnameClasses}
-use Rattle.classes.proofs.Tables.{at-inside, at-some, every-at, length-name-rows, length-qname-rows, length-event-rows, name-row-at, qname-row-at, event-row-at, event-rows-from}
 use Rattle.classes.proofs.Classes.{Known, texts-at, length-texts, length-classes, name-class-at, name-text-at, class-text, name-known, triples-at, length-triples, length-qclasses, qname-class-at, qclass-row}
-use Rattle.form_slots.specs.Slots.{classAt, partsAt}
+use Rattle.form_slots.specs.Slots.{partsAt}
 use Rattle.form_names.specs.Naming.{classText}
 use Rattle.form_names.proofs.Names.{Has, empty, among, Classed, Has3, partsOf}
 use Rattle.form_items.specs.Walk.{Tables, Ready, Prepared}
 use Rattle.rewriter.proofs.ItemLaws.{Meets, item-meets, fits-low}
 use Rattle.rewriter.proofs.Acts.{Said}
 use Rattle.form_items.specs.Items.{itemOf}
+use Rattle.classes.specs.Search.{classAt}
+use Rattle.token.specs.Answers.{qnameWidth, eventWidth}
 
 -- ---- rows
 
@@ -92,7 +95,7 @@ module _ (t : Tables) (events : List ℕ) (rows qrows count : ℕ) (x : Prepared
   has k h = has-known (name-known (t .doc) N k h)
 
   few : length T ≤ 1024
-  few = let a = length-texts (t .doc) N in let b = long-names in let c = x .few in omega arith
+  few = let a = length-texts (t .doc) N in let b = long-names in let c = x .filled .few in omega arith
 
   row-text : (k : ℕ) → k < rows → rowText (t .doc) (nameRow (getD (t .names) (2 * k) 0) (getD (t .names) (2 * k + 1) 0)) ≡ classText (t .doc) (t .names) (suc k)
   unfolding classText
@@ -105,33 +108,33 @@ module _ (t : Tables) (events : List ℕ) (rows qrows count : ℕ) (x : Prepared
         text = λ y h.
             let a = length-texts (t .doc) N in
             let b = long-names in
-            let l : place sameText T y < rows = omega arith in
-            let r = texts-at (t .doc) N (place sameText T y) (name-row-at rows (t .names) (place sameText T y) l) in
-            sym (row-text (place sameText T y) l) ∙ sym (some-is (sym (place-at sameText tells-text T y h) ∙ r));
+            let l : place same T y < rows = omega arith in
+            let r = texts-at (t .doc) N (place same T y) (name-row-at rows (t .names) (place same T y) l) in
+            sym (row-text (place same T y) l) ∙ sym (some-is (sym (place-at same tells-text T y h) ∙ r));
       }
 
   -- ---- classes of qnames
-  qrow-fits : (k : ℕ) → k < qrows → QnameFits rows (qnameRow (getD (t .qnames) (3 * k) 0) (getD (t .qnames) (3 * k + 1) 0) (getD (t .qnames) (3 * k + 2) 0))
-  qrow-fits k h = every-at (x .qnames-fit) k (qname-row-at qrows (t .qnames) k h)
+  qrow-fits : (k : ℕ) → k < qrows → QnameFits rows (qnameRow (getD (t .qnames) (qnameWidth * k) 0) (getD (t .qnames) (qnameWidth * k + 1) 0) (getD (t .qnames) (qnameWidth * k + 2) 0))
+  qrow-fits k h = every-at (x .filled .qnames-fit) k (qname-row-at qrows (t .qnames) k h)
 
   qinside : (k : ℕ) {q : QnameRow} → getElem? Q k ≡ some q → k < qrows
   qinside k e = let a = at-inside Q k e in let b = long-qnames in omega arith
 
-  qrow-is : (k : ℕ) {q : QnameRow} → getElem? Q k ≡ some q → q ≡ qnameRow (getD (t .qnames) (3 * k) 0) (getD (t .qnames) (3 * k + 1) 0) (getD (t .qnames) (3 * k + 2) 0)
+  qrow-is : (k : ℕ) {q : QnameRow} → getElem? Q k ≡ some q → q ≡ qnameRow (getD (t .qnames) (qnameWidth * k) 0) (getD (t .qnames) (qnameWidth * k + 1) 0) (getD (t .qnames) (qnameWidth * k + 2) 0)
   qrow-is k e = some-is (sym e ∙ qname-row-at qrows (t .qnames) k (qinside k e))
 
   parts-are : (k : ℕ) {q : QnameRow} → getElem? Q k ≡ some q → partsAt (t .qnames) (t .classes) k ≡ partsOf (t .doc) (t .names) T (tripleOf (t .doc) N q)
   parts-are k {q} e =
       let f = qrow-fits k (qinside k e) in
       let n = long-names in
-      let a = class-is (getD (t .qnames) (3 * k) 0) (let y = f .uri-in in omega arith) in
-      let b = class-is (getD (t .qnames) (3 * k + 1) 0) (let y = f .prefix-in in omega arith) in
-      let c = class-is (getD (t .qnames) (3 * k + 2) 0) (let y = f .local-in in omega arith) in
+      let a = class-is (getD (t .qnames) (qnameWidth * k) 0) (let y = f .uri-in in omega arith) in
+      let b = class-is (getD (t .qnames) (qnameWidth * k + 1) 0) (let y = f .prefix-in in omega arith) in
+      let c = class-is (getD (t .qnames) (qnameWidth * k + 2) 0) (let y = f .local-in in omega arith) in
       rw (qrow-is k e, a, b, c)
 
   has3 : (k : ℕ) {q : QnameRow} → getElem? Q k ≡ some q → Has3 (t .doc) (t .names) T (tripleOf (t .doc) N q)
   has3 k {q} e =
-      let f = every-at (x .qnames-fit) k e in
+      let f = every-at (x .filled .qnames-fit) k e in
       let n = long-names in
       let a = f .uri-in in
       let b = f .prefix-in in
@@ -147,7 +150,7 @@ module _ (t : Tables) (events : List ℕ) (rows qrows count : ℕ) (x : Prepared
   qhas k {q} e = let p = place-found sameTriple tells-triple QT k (triples-at (t .doc) N Q k e) in let a = p .0 in let b = p .1 in omega arith
 
   qfew : length QT ≤ 1024
-  qfew = let a = length-triples (t .doc) N Q in let b = long-qnames in let c = x .qfew in omega arith
+  qfew = let a = length-triples (t .doc) N Q in let b = long-qnames in let c = x .filled .qfew in omega arith
 
   pub said : Said t N Q
   said =
@@ -164,9 +167,6 @@ module _ (t : Tables) (events : List ℕ) (rows qrows count : ℕ) (x : Prepared
       }
 
   -- ---- bounds
-  name-inside : (k : ℕ) → k < rows → getD (t .names) (2 * k) 0 + 2 * getD (t .names) (2 * k + 1) 0 ≤ length (t .doc)
-  name-inside k h = every-at (x .names-fit) k (name-row-at rows (t .names) k h) .inside
-
   class-low : (k : ℕ) → k ≤ rows → classAt (t .classes) k ≤ rows
   class-low k h =
       let n = long-names in
@@ -182,18 +182,18 @@ module _ (t : Tables) (events : List ℕ) (rows qrows count : ℕ) (x : Prepared
       let o = qclass-row (t .doc) N Q k (classAt (t .qclasses) (suc k)) (s .1) (qclass-is k (s .1)) in
       let f = o .from in
       let g = o .to in
-      let q = x .qfew in
+      let q = x .filled .qfew in
       (f, omega arith)
 
   pub ready : Ready t rows qrows
   ready =
       record {
-        texts = record { few = x .few; long = x .long; short = x .short; each = name-inside };
+        texts = let f = x .filled in names-inside (f .few) (f .long) (f .short) (f .names-fit);
         classes-long = x .classes-long;
         qclasses-long = x .qclasses-long;
         class-low = class-low;
-        qrows-few = x .qfew;
-        qnames-long = x .qlong;
+        qrows-few = x .filled .qfew;
+        qnames-long = x .filled .qlong;
         uri-in = λ k h. qrow-fits k h .uri-in;
         prefix-in = λ k h. qrow-fits k h .prefix-in;
         local-in = λ k h. qrow-fits k h .local-in;
@@ -203,17 +203,17 @@ module _ (t : Tables) (events : List ℕ) (rows qrows count : ℕ) (x : Prepared
 
   -- ---- events
   abbrev pub rowAt : ℕ → EventRow
-  rowAt i = event (getD events (4 * i) 0) (getD events (4 * i + 1) 0) (getD events (4 * i + 2) 0) (getD events (4 * i + 3) 0)
+  rowAt i = event (getD events (eventWidth * i) 0) (getD events (eventWidth * i + 1) 0) (getD events (eventWidth * i + 2) 0) (getD events (eventWidth * i + 3) 0)
 
   pub from-row : (i : ℕ) → i < count → drop i E ≡ rowAt i ∷ drop (suc i) E
   from-row i h = event-rows-from count events i h
 
   pub meets : (i : ℕ) → i < count → Meets (t .doc) N Q (itemOf (rowAt i)) (eventOf (t .doc) N Q (rowAt i))
   meets i h =
-      let f = placed-at (x .events-fit) i (event-row-at count events i h) in
+      let f = placed-at (x .filled .events-fit) i (event-row-at count events i h) in
       let n = long-names in
       let q = long-qnames in
       item-meets (t .doc) N Q {next = f .next} (rw (n, q) (f .fits))
 
-  pub token-low : (i : ℕ) → i < count → getD events (4 * i) 0 < 256
-  token-low i h = fits-low (placed-at (x .events-fit) i (event-row-at count events i h) .fits)
+  pub token-low : (i : ℕ) → i < count → getD events (eventWidth * i) 0 < 256
+  token-low i h = fits-low (placed-at (x .filled .events-fit) i (event-row-at count events i h) .fits)

@@ -21,10 +21,10 @@ use Rattle.value.specs.declared.Text.the-variants as text
 use Rattle.machine.specs.Rows.{NameRow, QnameRow, EventRow}
 use Rattle.machine.specs.Events.{Event, dataIn, eventOf}
 use Rattle.machine.specs.Balance.{Opened, check}
-use Rattle.form.specs.Canonical.{Scopes, emit, onward, body, headerOf, lengthOf, counted}
+use Rattle.form.specs.Canonical.{Scopes, emit, scopesAfter, body, headerOf, lengthOf, withUnits}
 use Rattle.form_output.specs.Output.{Fits, Put}
 use Rattle.form_output.proofs.Laws.{shortest-few, put-length}
-use Rattle.form_slots.specs.Slots.{classAt, slotsAfter, numberIn, partsAt, Low, Cleared}
+use Rattle.form_slots.specs.Slots.{slotsAfter, numberIn, partsAt, Low, Cleared}
 use Rattle.form_names.proofs.Names.{slots-low, names-low}
 use Rattle.form_slots.proofs.Slots.{low-more}
 use Rattle.form_names.proofs.Steps.{bytes-few, counted-few, qname-few}
@@ -32,7 +32,8 @@ use Rattle.form_items.specs.declared.Spot.{Spot}
 use Rattle.form_items.specs.declared.Item.{Item}
 use Rattle.form_items.specs.declared.Item.the-variants.{Byte, Texted, Pi, Refer, Valued, Nest, Leave}
 use Rattle.form_items.specs.Items.{itemOf}
-use Rattle.form_items.specs.Walk.{Tables, before, piBytes, referBytes, bytesFor, NamesKept, QnamesKept, depthAfter, Turned, ItemFits}
+use Rattle.form_items.specs.Walk.{Tables, before, piBytes, referBytes, bytesFor, NamesKept, QnamesKept, nestedAfter, Turned, ItemFits}
+use Rattle.classes.specs.Search.{classAt}
 use Rattle.rewriter.proofs.ItemLaws as items
 use Rattle.rewriter.proofs.ItemLaws.{Meets}
 use Rattle.rewriter.proofs.Depth.{Deeper, docs, Next, next}
@@ -40,8 +41,8 @@ use Rattle.rewriter.proofs.Acts.{Said, Kept, acts, bytes-of}
 
 -- ---- an item's bytes are few, and its numbers low
 
-data-few : (doc : List ℕ) (t : texts.Text) → length (counted (dataIn doc t)) ≤ 5 + length doc
-unfolding counted
+data-few : (doc : List ℕ) (t : texts.Text) → length (withUnits (dataIn doc t)) ≤ 5 + length doc
+unfolding withUnits
 data-few doc (text.Is place units) = counted-few doc place (2 * units)
 data-few doc (text.Refused number place) = let h = shortest-few 0 in simp length-append (omega arith)
 
@@ -114,7 +115,7 @@ qnames-lower most t qslots qslots′ base Leave e l = rw e (low-more (omega arit
 
 -- ---- documents open
 
-deeper-is : (item : Item) (n m d : ℕ) → Deeper item n m → n ≡ suc d → m ≡ suc (depthAfter item d)
+deeper-is : (item : Item) (n m d : ℕ) → Deeper item n m → n ≡ suc d → m ≡ suc (nestedAfter item d)
 deeper-is (Byte value) n m d h e = h ∙ e
 deeper-is (Texted token place units) n m d h e = h ∙ e
 deeper-is (Pi row start) n m d h e = h ∙ e
@@ -123,7 +124,7 @@ deeper-is (Valued token place size) n m d h e = h ∙ e
 deeper-is (Nest version) n m d h e = let a = h .1 in omega arith
 deeper-is Leave n m d h e = let a = h .1 in let b = h .0 in omega arith
 
-deeper-few : (item : Item) (n m d : ℕ) → Deeper item n m → n ≡ suc d → d ≤ 8 → depthAfter item d ≤ 8
+deeper-few : (item : Item) (n m d : ℕ) → Deeper item n m → n ≡ suc d → d ≤ 8 → nestedAfter item d ≤ 8
 deeper-few (Byte value) n m d h e l = l
 deeper-few (Texted token place units) n m d h e l = l
 deeper-few (Pi row start) n m d h e l = l
@@ -184,7 +185,7 @@ module _ (t : Tables) (rows qrows : ℕ) (N : List NameRow) (Q : List QnameRow) 
     n : Next (x .o) fin e (drop (suc i) E)
     n = next (x .o) fin e (drop (suc i) E) (rw at-i at (x .balanced))
 
-    come-is : rest-of (x .s) i ≡ emit (x .s .here) (ev e) ++ rest-of (onward (x .s) (ev e)) (suc i)
+    come-is : rest-of (x .s) i ≡ emit (x .s .here) (ev e) ++ rest-of (scopesAfter (x .s) (ev e)) (suc i)
     unfolding body
     come-is = rw at-i
 
@@ -202,7 +203,7 @@ module _ (t : Tables) (rows qrows : ℕ) (N : List NameRow) (Q : List QnameRow) 
         go (inl h) = inl (let a = x .long in let b = x .far in omega arith)
         go (inr h) =
             inr (let a = x .long in let b = x .size in
-            let c : length (rest-of (x .s) i) ≡ length (emit (x .s .here) (ev e)) + length (rest-of (onward (x .s) (ev e)) (suc i)) = rw (come-is, length-append) in
+            let c : length (rest-of (x .s) i) ≡ length (emit (x .s .here) (ev e)) + length (rest-of (scopesAfter (x .s) (ev e)) (suc i)) = rw (come-is, length-append) in
             omega arith)
 
     up : itemOf e ≡ Leave → 1 ≤ w .depth
@@ -218,7 +219,7 @@ module _ (t : Tables) (rows qrows : ℕ) (N : List NameRow) (Q : List QnameRow) 
         let past = p .past in
         let near = x .near in
         let far = x .far in
-        let rest : List ℕ = rest-of (onward (x .s) (ev e)) (suc i) in
+        let rest : List ℕ = rest-of (scopesAfter (x .s) (ev e)) (suc i) in
         let c : length (rest-of (x .s) i) ≡ length (emit (x .s .here) (ev e)) + length rest = rw (come-is, length-append) in
         let l : length (bytesFor t slots qslots (1025 * w .depth) (itemOf e)) ≡ length (emit (x .s .here) (ev e)) = ap length b in
         let z : i + 1 ≡ suc i = omega arith in
@@ -226,7 +227,7 @@ module _ (t : Tables) (rows qrows : ℕ) (N : List NameRow) (Q : List QnameRow) 
         let total-is = x .size in
         rw z
         (record {
-          s = onward (x .s) (ev e);
+          s = scopesAfter (x .s) (ev e);
           o = n .after;
           kept = rw (y .depth-is) (a .kept);
           balanced = n .rest;
@@ -244,9 +245,9 @@ module _ (t : Tables) (rows qrows : ℕ) (N : List NameRow) (Q : List QnameRow) 
         })
       where
         ends-same : (out out′ : List ℕ) (at next : ℕ) (rest : List ℕ) → Put out out′ at next (bytesFor t slots qslots (1025 * w .depth) (itemOf e))
-            → sets out′ next (rest-of (onward (x .s) (ev e)) (suc i)) ≡ sets out at (rest-of (x .s) i)
+            → sets out′ next (rest-of (scopesAfter (x .s) (ev e)) (suc i)) ≡ sets out at (rest-of (x .s) i)
         ends-same out out′ at next rest p =
-            rw (p .laid, p .past, bytes-are, come-is) (sets-append (emit (x .s .here) (ev e)) (rest-of (onward (x .s) (ev e)) (suc i)) out at)
+            rw (p .laid, p .past, bytes-are, come-is) (sets-append (emit (x .s .here) (ev e)) (rest-of (scopesAfter (x .s) (ev e)) (suc i)) out at)
 
   -- all rows are written
   pub ends : {first target : List ℕ} {total : ℕ} {out slots qslots : List ℕ} {w : Spot} {i : ℕ} → Rel t N Q E fin first target total out slots qslots w i → length E ≤ i

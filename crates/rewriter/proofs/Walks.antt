@@ -6,10 +6,12 @@ use mathlib.Core.List.{List, [], map}
 use native.Mathlib.Omega.{arith}
 use lib.ListN.{length, getD, length-append, replicate, length-replicate, getD-replicate}
 use lib.Seq.{sets}
+use Rattle.sequences.specs.Lists.{same}
 use Rattle.machine.specs.Rows.{NameRow, QnameRow, EventRow}
 use Rattle.machine.specs.Events.{eventOf}
-use Rattle.machine.specs.Balance.{closed}
-use Rattle.form.specs.Places.{sameText, sameTriple}
+use Rattle.machine.specs.Balance.{nothingOpen}
+use Rattle.machine.specs.Tables.{nameRowsIn, qnameRowsIn, eventRowsIn, eventsIn}
+use Rattle.form.specs.Places.{sameTriple}
 use Rattle.form.specs.Canonical.{none-yet, body, headerOf, canonical}
 use Rattle.form_output.specs.Output.{Fits, Put}
 use Rattle.form_output.proofs.Laws.{put-then, put-length}
@@ -21,10 +23,10 @@ use Rattle.form_names.proofs.Layers.{marks-none}
 use Rattle.form_items.specs.declared.Spot.{Spot}
 use Rattle.form_items.specs.declared.Item.{Item}
 use Rattle.form_items.specs.declared.Item.the-variants.{Leave}
-use Rattle.form_items.specs.Walk.{Tables, itemAt, Either, bytesFor, depthAfter, Wrote, Turned, Ready, ItemFits, Prepared, eventsIn}
+use Rattle.form_items.specs.Walk.{Tables, itemAt, Either, bytesFor, nestedAfter, Wrote, Turned, Ready, ItemFits, Prepared}
 use Rattle.rewriter.proofs.Step.{Rel, fits-here, room-here, keeps, ends}
-use Rattle.classes.specs.Tables.{nameRowsIn, qnameRowsIn, eventRowsIn}
 use Rattle.rewriter.proofs.Prep.{long-names, long-qnames, long-events, said, ready, from-row, meets, rowAt, token-low}
+use Rattle.token.specs.Answers.{eventWidth}
 
 -- ---- a turn
 
@@ -39,7 +41,7 @@ module _ (t : Tables) (rows qrows : ℕ) {item item′ : Item} (e : item ≡ ite
   room-there slots qslots out at base f = rw e f
 
   pub turned : {slots qslots out slots′ qslots′ out′ : List ℕ} {w : Spot} {at depth : ℕ} → Wrote t slots qslots out slots′ qslots′ out′ w item at
-      → depth ≡ depthAfter item (w .depth) → Turned t slots qslots out slots′ qslots′ out′ w item′ (record { at = at; depth = depth })
+      → depth ≡ nestedAfter item (w .depth) → Turned t slots qslots out slots′ qslots′ out′ w item′ (record { at = at; depth = depth })
   turned x d = record { wrote = rw e at x; depth-is = d ∙ rw e }
 
 -- ---- nothing is defined yet
@@ -78,9 +80,9 @@ module _ (t : Tables) (events : List ℕ) (rows qrows count : ℕ) where
 
   -- the walk before row i, where the output was `first` after the header
   abbrev pub Inv : List ℕ → List ℕ → List ℕ → List ℕ → Spot → ℕ → Type 0
-  Inv first out slots qslots w i = Rel t N Q E closed first (sets first 5 form) (5 + length form) out slots qslots w i
+  Inv first out slots qslots w i = Rel t N Q E nothingOpen first (sets first 5 form) (5 + length form) out slots qslots w i
 
-  form-long : (version : ℕ) → length (canonical version (eventsIn t events rows qrows count)) ≡ 5 + length form
+  form-long : (version : ℕ) → length (canonical version (eventsIn (t .doc) (t .names) (t .qnames) events rows qrows count)) ≡ 5 + length form
   unfolding canonical eventsIn headerOf
   form-long version = rw length-append
 
@@ -88,7 +90,7 @@ module _ (t : Tables) (events : List ℕ) (rows qrows count : ℕ) where
   unfolding headerOf
   header-past version p = p .past
 
-  either-is : (version room : ℕ) → Either room (length (canonical version (eventsIn t events rows qrows count))) → (room ≤ 5) ⊎ (5 + length form ≤ room)
+  either-is : (version room : ℕ) → Either room (length (canonical version (eventsIn (t .doc) (t .names) (t .qnames) events rows qrows count))) → (room ≤ 5) ⊎ (5 + length form ≤ room)
   either-is version room (inl h) = inl (omega arith)
   either-is version room (inr h) = inr (let e = form-long version in omega arith)
 
@@ -102,7 +104,7 @@ module _ (t : Tables) (events : List ℕ) (rows qrows count : ℕ) where
 
   module _ (x : Prepared t events rows qrows count) where
     pub begins : (version : ℕ) {first out : List ℕ} {at : ℕ} (slots qslots : List ℕ) → Put out first 0 at (headerOf version)
-        → Either (length out) (length (canonical version (eventsIn t events rows qrows count))) → Zeros slots → Zeros qslots
+        → Either (length out) (length (canonical version (eventsIn (t .doc) (t .names) (t .qnames) events rows qrows count))) → Zeros slots → Zeros qslots
         → Inv first first slots qslots (record { at = at; depth = 0 }) 0
     begins version {first} {out} {at} slots qslots p e z z′ =
         let a = header-past version p in
@@ -111,10 +113,10 @@ module _ (t : Tables) (events : List ℕ) (rows qrows count : ℕ) where
         let qfew = said t events rows qrows count x .qfew in
         record {
           s = none-yet;
-          o = closed;
+          o = nothingOpen;
           kept =
               record {
-                names = layers.layer {cs = []} (marks-none sameText (textsOf (t .doc) N) few (z .cleared)) layers.bottom;
+                names = layers.layer {cs = []} (marks-none same (textsOf (t .doc) N) few (z .cleared)) layers.bottom;
                 qnames = layers.layer {cs = []} (marks-none sameTriple (triplesOf (t .doc) N Q) qfew (z′ .cleared)) layers.bottom;
                 deep = refl;
                 long = z .low .long;
@@ -135,40 +137,40 @@ module _ (t : Tables) (events : List ℕ) (rows qrows count : ℕ) where
         }
 
     module _ {first out slots qslots : List ℕ} {w : Spot} {i : ℕ} (y : Inv first out slots qslots w i) (less : i < count) where
-      pub asks : (i < 4096) × (4 * i + 4 ≤ length events) × (getD events (4 * i) 0 < 256) × Ready t rows qrows × ItemFits t rows qrows (w .depth) (itemAt events i)
+      pub asks : (i < 4096) × (eventWidth * i + eventWidth ≤ length events) × (getD events (eventWidth * i) 0 < 256) × Ready t rows qrows × ItemFits t rows qrows (w .depth) (itemAt events i)
           × Low 15000 slots × Low 15000 qslots × (w .depth ≤ 8) × (w .at ≤ 800000000000)
           × Fits (length out) (w .at) (length (bytesFor t slots qslots (1025 * w .depth) (itemAt events i)))
       asks =
-          let f = x .efew in
-          let g = x .elong in
+          let f = x .filled .efew in
+          let g = x .filled .elong in
           let near = y .near in (
             omega arith,
             omega arith,
             token-low t events rows qrows count x i less,
             ready t events rows qrows count x,
-            fits-here t rows qrows N Q E (said t events rows qrows count x) closed (long-names t events rows qrows count x) (long-qnames t events rows qrows count x) y
-                (rowAt t events rows qrows count x i) (from-row t events rows qrows count x i less) (meets t events rows qrows count x i less) (x .short),
+            fits-here t rows qrows N Q E (said t events rows qrows count x) nothingOpen (long-names t events rows qrows count x) (long-qnames t events rows qrows count x) y
+                (rowAt t events rows qrows count x i) (from-row t events rows qrows count x i less) (meets t events rows qrows count x i less) (x .filled .short),
             low-more (omega arith) (y .low),
             low-more (omega arith) (y .qlow),
             y .shallow,
             omega arith,
-            room-here t rows qrows N Q E (said t events rows qrows count x) closed (long-names t events rows qrows count x) (long-qnames t events rows qrows count x) y
-                (rowAt t events rows qrows count x i) (from-row t events rows qrows count x i less) (meets t events rows qrows count x i less) (x .short),
+            room-here t rows qrows N Q E (said t events rows qrows count x) nothingOpen (long-names t events rows qrows count x) (long-qnames t events rows qrows count x) y
+                (rowAt t events rows qrows count x i) (from-row t events rows qrows count x i less) (meets t events rows qrows count x i less) (x .filled .short),
           )
 
       pub goes-on : {out′ slots′ qslots′ : List ℕ} {r : Spot} → Turned t slots qslots out slots′ qslots′ out′ w (itemAt events i) r → Inv first out′ slots′ qslots′ r (i + 1)
       goes-on z =
           let l = long-events t events rows qrows count x in
-          keeps t rows qrows N Q E (said t events rows qrows count x) closed (long-names t events rows qrows count x) (long-qnames t events rows qrows count x) y
-          (rowAt t events rows qrows count x i) (from-row t events rows qrows count x i less) (meets t events rows qrows count x i less) (x .short) (omega arith) z
+          keeps t rows qrows N Q E (said t events rows qrows count x) nothingOpen (long-names t events rows qrows count x) (long-qnames t events rows qrows count x) y
+          (rowAt t events rows qrows count x i) (from-row t events rows qrows count x i less) (meets t events rows qrows count x i less) (x .filled .short) (omega arith) z
 
     -- the header, and then all rows
     pub whole : (version : ℕ) {before first out slots qslots : List ℕ} {at : ℕ} {w : Spot} {i : ℕ} → Put before first 0 at (headerOf version)
-        → Inv first out slots qslots w i → count ≤ i → Put before out 0 (w .at) (canonical version (eventsIn t events rows qrows count))
+        → Inv first out slots qslots w i → count ≤ i → Put before out 0 (w .at) (canonical version (eventsIn (t .doc) (t .names) (t .qnames) events rows qrows count))
     unfolding canonical eventsIn
     whole version {first = first} {out = out} {at = at} {w = w} p y h =
         let l = long-events t events rows qrows count x in
-        let z = ends t rows qrows N Q E (said t events rows qrows count x) closed (long-names t events rows qrows count x) (long-qnames t events rows qrows count x) y (omega arith) in
+        let z = ends t rows qrows N Q E (said t events rows qrows count x) nothingOpen (long-names t events rows qrows count x) (long-qnames t events rows qrows count x) y (omega arith) in
         let a = header-past version p in
         let z₀ = z .0 in
         let q : Put first out at (w .at) form = record { past = omega arith; laid = rw a (z .1) } in

@@ -4,13 +4,15 @@ ghost use mathlib.Core.Path.{_≡_};
 ghost use Prim.Native.Nat.{_+_, _*_, _≤_, _<_};
 ghost use lib.ListN.{length, getD};
 ghost use Rattle.token.specs.Entries.{Listed};
+ghost use Rattle.token.specs.Answers.{eventWidth};
 ghost use Rattle.machine.specs.Machine.{reading};
 ghost use Rattle.machine.specs.Contract.{roomIn};
+ghost use Rattle.machine.specs.Tables.{eventsIn};
 ghost use Rattle.form.specs.Canonical.{canonical};
 ghost use Rattle.form_output.specs.Output.{Fits, Put};
 ghost use Rattle.form_slots.specs.Slots.{Low};
-ghost use Rattle.form_items.specs.Walk.{tables, baseAt, bytesFor, itemAt, Either, Turned, Ready, ItemFits, Prepared, eventsIn};
-ghost use Rattle.rewriter_contract.specs.Contract.{answer, Formed, Rewrites};
+ghost use Rattle.form_items.specs.Walk.{tables, baseAt, bytesFor, itemAt, Either, Turned, Ready, ItemFits, Prepared};
+ghost use Rattle.rewriter_contract.specs.Contract.{answer, FormWritten, Rewrites};
 use form_items::Spot;
 use rewriter_contract::Answer;
 
@@ -21,17 +23,17 @@ fn turn(
     names: &[u32],
     qnames: &[u32],
     events: &[u32],
-    classes: &[u32; 1024],
-    qclasses: &[u32; 1024],
+    classes: &[u32; token::NAME_ROWS],
+    qclasses: &[u32; token::QNAME_ROWS],
     out: &mut [u8],
-    slots: &mut [u32; 9225],
-    qslots: &mut [u32; 9225],
+    slots: &mut [u32; form_slots::SLOTS],
+    qslots: &mut [u32; form_slots::SLOTS],
     rows: usize,
     qrows: usize,
     i: usize,
     w: Spot,
 ) -> Spot
-    requires { ⌜ Listed (now table) × (i < 4096) × (4 * i + 4 ≤ length (now events)) × (getD (now events) (4 * i) 0 < 256)
+    requires { ⌜ Listed (now table) × (i < 4096) × (eventWidth * i + eventWidth ≤ length (now events)) × (getD (now events) (eventWidth * i) 0 < 256)
         × Ready (tables (now doc) (now names) (now qnames) (now classes) (now qclasses)) rows qrows
         × ItemFits (tables (now doc) (now names) (now qnames) (now classes) (now qclasses)) rows qrows (w .depth) (itemAt (now events) i)
         × Low 15000 (now slots) × Low 15000 (now qslots) × (w .depth ≤ 8) × (w .at ≤ 800000000000)
@@ -66,19 +68,19 @@ fn walk(
     names: &[u32],
     qnames: &[u32],
     events: &[u32],
-    classes: &[u32; 1024],
-    qclasses: &[u32; 1024],
+    classes: &[u32; token::NAME_ROWS],
+    qclasses: &[u32; token::QNAME_ROWS],
     out: &mut [u8],
     read: machine::Answer,
 ) -> usize
     requires { ⌜ Listed (now table) × Prepared (tables (now doc) (now names) (now qnames) (now classes) (now qclasses)) (now events) (read .names) (read .qnames) (read .events)
         × (read .version ≤ 2)
-        × Either (length (now out)) (length (canonical (read .version) (eventsIn (tables (now doc) (now names) (now qnames) (now classes) (now qclasses)) (now events) (read .names) (read .qnames) (read .events)))) ⌝ }
+        × Either (length (now out)) (length (canonical (read .version) (eventsIn (now doc) (now names) (now qnames) (now events) (read .names) (read .qnames) (read .events)))) ⌝ }
     ensures { λ r. ⌜ Put (now (out .entry)) (now (out .exit)) 0 r (canonical (read .version)
-        (eventsIn (tables (now (doc .entry)) (now (names .entry)) (now (qnames .entry)) (now (classes .entry)) (now (qclasses .entry))) (now (events .entry)) (read .names) (read .qnames) (read .events))) ⌝ }
+        (eventsIn (now (doc .entry)) (now (names .entry)) (now (qnames .entry)) (now (events .entry)) (read .names) (read .qnames) (read .events))) ⌝ }
 {
-    let mut slots = [0u32; 9225];
-    let mut qslots = [0u32; 9225];
+    let mut slots = [0u32; form_slots::SLOTS];
+    let mut qslots = [0u32; form_slots::SLOTS];
     let rows = read.names;
     let qrows = read.qnames;
     let at = form_bytes::put_header(out, 0, read.version as u8);
@@ -124,15 +126,15 @@ fn write_form(
     names: &[u32],
     qnames: &[u32],
     events: &[u32],
-    classes: &[u32; 1024],
-    qclasses: &[u32; 1024],
+    classes: &[u32; token::NAME_ROWS],
+    qclasses: &[u32; token::QNAME_ROWS],
     out: &mut [u8],
     read: machine::Answer,
 ) -> Answer
     requires { ⌜ Listed (now table) × Prepared (tables (now doc) (now names) (now qnames) (now classes) (now qclasses)) (now events) (read .names) (read .qnames) (read .events)
         × (read .version ≤ 2) ⌝ }
-    ensures { λ r. ⌜ Formed (canonical (read .version)
-        (eventsIn (tables (now (doc .entry)) (now (names .entry)) (now (qnames .entry)) (now (classes .entry)) (now (qclasses .entry))) (now (events .entry)) (read .names) (read .qnames) (read .events)))
+    ensures { λ r. ⌜ FormWritten (canonical (read .version)
+        (eventsIn (now (doc .entry)) (now (names .entry)) (now (qnames .entry)) (now (events .entry)) (read .names) (read .qnames) (read .events)))
         (read .place) (now (out .entry)) (now (out .exit)) r ⌝ }
 {
     let mut none = [0u8; 1];
@@ -188,8 +190,8 @@ pub fn rewrite(
         return refused(read.number, read.place);
     }
     let table = token::table();
-    let mut classes = [0u32; 1024];
-    let mut qclasses = [0u32; 1024];
+    let mut classes = [0u32; token::NAME_ROWS];
+    let mut qclasses = [0u32; token::QNAME_ROWS];
     name_classes::name_classes(doc, names, read.names, &mut classes);
     qname_classes::qname_classes(
         doc,

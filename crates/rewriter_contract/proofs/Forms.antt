@@ -8,43 +8,44 @@ use lib.Dec.{eqb}
 use lib.ListN.{length}
 use borrow.Author.Tests.{lt-ltb, le-ltb, eq-eqb, ne-eqb}
 use Rattle.sequences.specs.Lists.{Front}
-use Rattle.token.specs.Answers.{accepted, longest}
+use Rattle.sequences.specs.Members.{Every}
+use Rattle.token.specs.Answers.{accepted, longest, nameWidth, qnameWidth}
 use Rattle.machine.specs.Machine.{Result, reading}
-use Rattle.machine.specs.Facts.{Every, NameFits, QnameFits}
+use Rattle.machine.specs.Facts.{NameFits, QnameFits}
 use Rattle.machine.specs.Contract.{roomIn, Reads}
+use Rattle.machine.specs.Tables.{nameRowsIn, qnameRowsIn, eventsIn}
 use Rattle.machine.specs.declared.Answer as reader-answer
 use Rattle.machine.proofs.Balance.{balanced}
 use Rattle.form.specs.Canonical.{canonical}
 use Rattle.form_output.specs.Output.{Put}
 use Rattle.form_output.proofs.Laws.{put-whole}
-use Rattle.classes.specs.Tables.{nameRowsIn, qnameRowsIn}
 use Rattle.classes.specs.Classes.{nameClasses, qnameClasses}
 use Rattle.filled.proofs.Rooms.{version-low}
-use Rattle.filled.proofs.Filled.{number-read, place-read, events-back, same-rows, names-long, qnames-long, events-long, read-short, few, qfew, efew, names-fit, qnames-fit, events-fit}
+use Rattle.filled.proofs.Filled.{number-read, place-read, events-back, same-events, read-filled}
 use Rattle.rewriter_contract.specs.declared.Answer.{Answer}
-use Rattle.form_items.specs.Walk.{tables, Prepared, eventsIn}
-use Rattle.rewriter_contract.specs.Contract.{answer, formOf, judged, Formed, answerOf, outputOf, Rewrites}
+use Rattle.form_items.specs.Walk.{tables, Prepared}
+use Rattle.rewriter_contract.specs.Contract.{answer, formOf, formJudged, FormWritten, rewriteAnswer, outputOf, Rewrites}
 
 -- ---- writing a form
 
 module _ (form : List ℕ) (place : ℕ) (out : List ℕ) {size : ℕ} (e : size ≡ 0 + length form) where
-  pub form-long : {a : Answer} → longest < size → a ≡ answer 13 size 0 → Formed form place out out a
-  unfolding judged
+  pub form-long : {a : Answer} → longest < size → a ≡ answer 13 size 0 → FormWritten form place out out a
+  unfolding formJudged
   form-long h i =
       let n : size ≡ length form = omega arith in
       let l = lt-ltb longest (length form) (omega arith) in
       record { answer-is = i ∙ rw (l, n); output-is = rw l }
 
-  pub room-small : {a : Answer} → size ≤ longest → length out < size → a ≡ answer 10 size 0 → Formed form place out out a
-  unfolding judged
+  pub room-small : {a : Answer} → size ≤ longest → length out < size → a ≡ answer 10 size 0 → FormWritten form place out out a
+  unfolding formJudged
   room-small h k i =
       let n : size ≡ length form = omega arith in
       let l = le-ltb longest (length form) (omega arith) in
       let m = lt-ltb (length out) (length form) (omega arith) in
       record { answer-is = i ∙ rw (l, m, n); output-is = rw (l, m) }
 
-  pub form-written : {out′ : List ℕ} {r : ℕ} → size ≤ longest → size ≤ length out → Put out out′ 0 r form → Formed form place out out′ (answer 0 place size)
-  unfolding judged
+  pub form-written : {out′ : List ℕ} {r : ℕ} → size ≤ longest → size ≤ length out → Put out out′ 0 r form → FormWritten form place out out′ (answer 0 place size)
+  unfolding formJudged
   form-written h k p =
       let n : size ≡ length form = omega arith in
       let l = le-ltb longest (length form) (omega arith) in
@@ -60,7 +61,7 @@ module _ (doc : List ℕ) {names qnames events names′ qnames′ events′ : Li
 
   -- 1 to 9: reading's answer, and the output is not touched
   pub not-read : (out : List ℕ) {b : Answer} → (a .number ≡ 0 → ⊥) → b ≡ answer (a .number) (a .place) 0 → Rewrites doc r names qnames events out names′ qnames′ events′ out b
-  unfolding answerOf outputOf
+  unfolding rewriteAnswer outputOf
   not-read out n i =
       let e = number-read h in
       let p = place-read h in
@@ -74,9 +75,6 @@ module _ (doc : List ℕ) {names qnames events names′ qnames′ events′ : Li
       }
 
   module _ (ok : a .number ≡ 0) where
-    short : length doc ≤ 65536
-    short = read-short doc h ok
-
     read-ok : r .number ≡ 0
     read-ok = sym (number-read h) ∙ ok
 
@@ -84,30 +82,20 @@ module _ (doc : List ℕ) {names qnames events names′ qnames′ events′ : Li
     version-few = let v = version-low doc (roomIn (length names) (length qnames) (length events)) read-ok in let e = ap (λ (x : reader-answer.Answer). x .version) (h .answer-is) in omega arith
 
     pub names-asks : (classes : List ℕ) → length classes ≡ 1024
-        → (a .names ≤ 1024) × (2 * a .names ≤ length names′) × (length doc ≤ 65536) × (length classes ≡ 1024) × Every (NameFits (length doc)) (nameRowsIn (a .names) names′)
-    names-asks classes l = (few doc h short, names-long h, short, l, names-fit doc h short)
+        → (a .names ≤ 1024) × (nameWidth * a .names ≤ length names′) × (length doc ≤ 65536) × (length classes ≡ 1024) × Every (NameFits (length doc)) (nameRowsIn (a .names) names′)
+    names-asks classes l = let f = read-filled doc h ok in (f .few, f .long, f .short, l, f .names-fit)
 
     pub qnames-asks : (classes qclasses : List ℕ) → length classes ≡ 1024 → length qclasses ≡ 1024 → Front (nameClasses doc (nameRowsIn (a .names) names′)) classes
-        → (a .names ≤ 1024) × (2 * a .names ≤ length names′) × (a .qnames ≤ 1024) × (3 * a .qnames ≤ length qnames′) × (length classes ≡ 1024) × (length qclasses ≡ 1024)
+        → (a .names ≤ 1024) × (nameWidth * a .names ≤ length names′) × (a .qnames ≤ 1024) × (qnameWidth * a .qnames ≤ length qnames′) × (length classes ≡ 1024) × (length qclasses ≡ 1024)
         × Front (nameClasses doc (nameRowsIn (a .names) names′)) classes × Every (QnameFits (a .names)) (qnameRowsIn (a .qnames) qnames′)
-    qnames-asks classes qclasses l m f = (few doc h short, names-long h, qfew doc h short, qnames-long h, l, m, f, qnames-fit doc h short)
+    qnames-asks classes qclasses l m c = let f = read-filled doc h ok in (f .few, f .long, f .qfew, f .qlong, l, m, c, f .qnames-fit)
 
     pub prepared : (classes qclasses : List ℕ) → length classes ≡ 1024 → length qclasses ≡ 1024 → Front (nameClasses doc (nameRowsIn (a .names) names′)) classes
         → Front (qnameClasses doc (nameRowsIn (a .names) names′) (qnameRowsIn (a .qnames) qnames′)) qclasses
         → Prepared (tables doc names′ qnames′ classes qclasses) events′ (a .names) (a .qnames) (a .events)
     prepared classes qclasses l m f g =
         record {
-          short = short;
-          few = few doc h short;
-          long = names-long h;
-          qfew = qfew doc h short;
-          qlong = qnames-long h;
-          efew = efew doc h short;
-          elong = events-long h;
-          names-fit = names-fit doc h short;
-          qnames-fit = qnames-fit doc h short;
-          last = r .final .at;
-          events-fit = events-fit doc h short;
+          filled = read-filled doc h ok;
           balanced = rw (events-back h) (balanced doc (roomIn (length names) (length qnames) (length events)) read-ok);
           classes-long = l;
           classes-are = f;
@@ -115,18 +103,18 @@ module _ (doc : List ℕ) {names qnames events names′ qnames′ events′ : Li
           qclasses-are = g;
         }
 
-    form-is : (classes qclasses : List ℕ) → canonical (a .version) (eventsIn (tables doc names′ qnames′ classes qclasses) events′ (a .names) (a .qnames) (a .events)) ≡ formOf doc r
-    unfolding formOf eventsIn
-    form-is classes qclasses = let e = ap (λ (x : reader-answer.Answer). x .version) (h .answer-is) in rw (same-rows h doc, e)
+    form-is : canonical (a .version) (eventsIn doc names′ qnames′ events′ (a .names) (a .qnames) (a .events)) ≡ formOf doc r
+    unfolding formOf
+    form-is = let e = ap (λ (x : reader-answer.Answer). x .version) (h .answer-is) in rw (same-events h doc, e)
 
-    pub formed : (classes qclasses out out′ : List ℕ) {b : Answer}
-        → Formed (canonical (a .version) (eventsIn (tables doc names′ qnames′ classes qclasses) events′ (a .names) (a .qnames) (a .events))) (a .place) out out′ b
+    pub formed : (out out′ : List ℕ) {b : Answer}
+        → FormWritten (canonical (a .version) (eventsIn doc names′ qnames′ events′ (a .names) (a .qnames) (a .events))) (a .place) out out′ b
         → Rewrites doc r names qnames events out names′ qnames′ events′ out′ b
-    unfolding answerOf outputOf
-    formed classes qclasses out out′ {b} f =
+    unfolding rewriteAnswer outputOf
+    formed out out′ {b} f =
         let t : eqb (r .number) accepted ≡ true = eq-eqb (r .number) 0 read-ok in
         let p = place-read h in
-        let g : Formed (formOf doc r) (r .place) out out′ b = rw (form-is classes qclasses, p) at f in
+        let g : FormWritten (formOf doc r) (r .place) out out′ b = rw (form-is, p) at f in
         record {
           answer-is = rw t (g .answer-is);
           names-are = h .names-are;

@@ -22,24 +22,24 @@ unfoldable pub formOf : List ℕ → Result → List ℕ
 formOf doc r = canonical (r .version) (eventsOf doc (r .final))
 
 -- an accepted document: 13 for a form over 65,536 bytes, then 10 for an output that is too small, else the length written
-unfoldable pub judged : ℕ → List ℕ → ℕ → Answer
-judged place form room = cond (ltb longest (length form)) (answer formTooLong (length form) 0) (cond (ltb room (length form)) (answer noRoom (length form) 0) (answer accepted place (length form)))
+unfoldable pub formJudged : ℕ → List ℕ → ℕ → Answer
+formJudged place form room = cond (ltb longest (length form)) (answer formTooLong (length form) 0) (cond (ltb room (length form)) (answer noRoom (length form) 0) (answer accepted place (length form)))
 
 -- what writing a form does to an output
-pub record Formed (form : List ℕ) (place : ℕ) (out out′ : List ℕ) (a : Answer) : Type 0 where
-  pub answer-is : a ≡ judged place form (length out)
-  pub output-is : out′ ≡ cond (eqb (judged place form (length out) .number) accepted) (overlay form out) out
+pub record FormWritten (form : List ℕ) (place : ℕ) (out out′ : List ℕ) (a : Answer) : Type 0 where
+  pub answer-is : a ≡ formJudged place form (length out)
+  pub output-is : out′ ≡ cond (eqb (formJudged place form (length out) .number) accepted) (overlay form out) out
 
 -- 1 to 9 are reading's
-unfoldable pub answerOf : List ℕ → Result → ℕ → Answer
-answerOf doc r room = cond (eqb (r .number) accepted) (judged (r .place) (formOf doc r) room) (answer (r .number) (r .place) 0)
+unfoldable pub rewriteAnswer : List ℕ → Result → ℕ → Answer
+rewriteAnswer doc r room = cond (eqb (r .number) accepted) (formJudged (r .place) (formOf doc r) room) (answer (r .number) (r .place) 0)
 
 -- the output holds the form, laid over what stood there; a refused output is not touched
 unfoldable pub outputOf : List ℕ → Result → List ℕ → List ℕ
-outputOf doc r out = cond (eqb (answerOf doc r (length out) .number) accepted) (overlay (formOf doc r) out) out
+outputOf doc r out = cond (eqb (rewriteAnswer doc r (length out) .number) accepted) (overlay (formOf doc r) out) out
 
 pub record Rewrites (doc : List ℕ) (r : Result) (names qnames events out names′ qnames′ events′ out′ : List ℕ) (a : Answer) : Type 0 where
-  pub answer-is : a ≡ answerOf doc r (length out)
+  pub answer-is : a ≡ rewriteAnswer doc r (length out)
   pub names-are : names′ ≡ overlay (flatNames (r .final .names)) names
   pub qnames-are : qnames′ ≡ overlay (flatQnames (r .final .qnames)) qnames
   pub events-are : events′ ≡ overlay (flatEvents (r .final .events)) events

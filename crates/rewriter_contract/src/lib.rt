@@ -1,5 +1,4 @@
 // What rewriting promises. No function here; the code is in crate rewriter.
-ghost use lib.ListN.{length};
 
 // The answer number, its place or count, and the length written.
 pub struct Answer {

@@ -1,7 +1,6 @@
 // Runs reading into small tables: each line of standard input is a document in hexadecimal and the lengths of three
 // tables. It is written again, followed by what reading answers and by the rows; `changed` where a number past the rows
 // is no longer what stood there.
-ghost use mathlib.Core.Path.{_≡_};
 ghost use Prim.Native.Nat.{_+_, _≤_, _<_};
 ghost use lib.ListN.{length};
 use libc::STDOUT_FILENO;
@@ -13,12 +12,6 @@ fn report_change(table: &[u32], from: usize) {
     if cases::changed(table, from, MARK) {
         io::write_all(STDOUT_FILENO, b"changed\n");
     }
-}
-
-fn least(a: usize, b: usize) -> usize
-    ensures { λ r. ⌜ (r ≤ a) × (r ≤ b) ⌝ }
-{
-    if a < b { a } else { b }
 }
 
 // Reads into the front of the tables: so many numbers of each are lent.
@@ -44,9 +37,9 @@ fn write_report(names: &[u32], qnames: &[u32], events: &[u32], a: Answer) {
         names,
         qnames,
         events,
-        least(a.names, least(names.len() / 2, 1024)),
-        least(a.qnames, least(qnames.len() / 3, 1024)),
-        least(a.events, least(events.len() / 4, 4096)),
+        slices::least(a.names, slices::least(names.len() / 2, 1024)),
+        slices::least(a.qnames, slices::least(qnames.len() / 3, 1024)),
+        slices::least(a.events, slices::least(events.len() / 4, 4096)),
     );
     let from = print_reading::put_answer(&mut text, end, a);
     io::write_all(STDOUT_FILENO, &text[from..]);
@@ -62,14 +55,14 @@ fn read_into(doc: &[u8], n: usize, q: usize, e: usize) {
         &mut names,
         &mut qnames,
         &mut events,
-        least(n, 64),
-        least(q, 64),
-        least(e, 512),
+        slices::least(n, 64),
+        slices::least(q, 64),
+        slices::least(e, 512),
     );
     write_report(&names, &qnames, &events, a);
-    report_change(&names, 2 * least(a.names, 1024));
-    report_change(&qnames, 3 * least(a.qnames, 1024));
-    report_change(&events, 4 * least(a.events, 4096));
+    report_change(&names, 2 * slices::least(a.names, 1024));
+    report_change(&qnames, 3 * slices::least(a.qnames, 1024));
+    report_change(&events, 4 * slices::least(a.events, 4096));
 }
 
 fn case(line: &[u8]) {

@@ -11,22 +11,23 @@ use Rattle.machine.specs.Rows.{NameRow, QnameRow, EventRow, nameRow, qnameRow, 
 use Rattle.rows.specs.Tables.{put2, put3, put4, put6}
 use Rattle.modes.specs.declared.View.{View}
 use Rattle.machine.proofs.Rows.{length-names, length-qnames, length-events, flat-names, flat-qnames, flat-events}
+use Rattle.token.specs.Answers.{nameWidth, qnameWidth, eventWidth}
 
 -- stores at neighbouring places are one store of a run
-pub run2 : (l : List ℕ) (row a b : ℕ) → put2 l row a b ≡ sets l (2 * row) (a ∷ b ∷ [])
-run2 l row a b = let e : 2 * row + 1 ≡ suc (2 * row) = omega arith in rw e
+pub run2 : (l : List ℕ) (row a b : ℕ) → put2 l row a b ≡ sets l (nameWidth * row) (a ∷ b ∷ [])
+run2 l row a b = let e : nameWidth * row + 1 ≡ suc (nameWidth * row) = omega arith in rw e
 
-pub run3 : (l : List ℕ) (row a b c : ℕ) → put3 l row a b c ≡ sets l (3 * row) (a ∷ b ∷ c ∷ [])
+pub run3 : (l : List ℕ) (row a b c : ℕ) → put3 l row a b c ≡ sets l (qnameWidth * row) (a ∷ b ∷ c ∷ [])
 run3 l row a b c =
-    let e : 3 * row + 1 ≡ suc (3 * row) = omega arith in
-    let f : 3 * row + 2 ≡ suc (suc (3 * row)) = omega arith in
+    let e : qnameWidth * row + 1 ≡ suc (qnameWidth * row) = omega arith in
+    let f : qnameWidth * row + 2 ≡ suc (suc (qnameWidth * row)) = omega arith in
     rw (e, f)
 
-pub run4 : (l : List ℕ) (row a b c d : ℕ) → put4 l row a b c d ≡ sets l (4 * row) (a ∷ b ∷ c ∷ d ∷ [])
+pub run4 : (l : List ℕ) (row a b c d : ℕ) → put4 l row a b c d ≡ sets l (eventWidth * row) (a ∷ b ∷ c ∷ d ∷ [])
 run4 l row a b c d =
-    let e : 4 * row + 1 ≡ suc (4 * row) = omega arith in
-    let f : 4 * row + 2 ≡ suc (suc (4 * row)) = omega arith in
-    let g : 4 * row + 3 ≡ suc (suc (suc (4 * row))) = omega arith in
+    let e : eventWidth * row + 1 ≡ suc (eventWidth * row) = omega arith in
+    let f : eventWidth * row + 2 ≡ suc (suc (eventWidth * row)) = omega arith in
+    let g : eventWidth * row + 3 ≡ suc (suc (suc (eventWidth * row))) = omega arith in
     rw (e, f, g)
 
 pub run6 : (l : List ℕ) (row : ℕ) (v : View)
@@ -39,26 +40,26 @@ run6 l row v =
     let i : 6 * row + 5 ≡ suc (suc (suc (suc (suc (6 * row))))) = omega arith in
     rw (e, f, g, h, i)
 
-pub names-put : (rs : List NameRow) (l : List ℕ) (place units : ℕ) → 2 * length rs + 2 ≤ length l
+pub names-put : (rs : List NameRow) (l : List ℕ) (place units : ℕ) → nameWidth * length rs + nameWidth ≤ length l
     → put2 (overlay (flatNames rs) l) (length rs) place units ≡ overlay (flatNames (rs ++ (nameRow place units ∷ []))) l
 names-put rs l place units h =
-    let n : 2 * length rs ≡ length (flatNames rs) = sym (length-names rs) in
+    let n : nameWidth * length rs ≡ length (flatNames rs) = sym (length-names rs) in
     run2 (overlay (flatNames rs) l) (length rs) place units
-    ∙ overlay-sets (place ∷ units ∷ []) (flatNames rs) l (2 * length rs) n (omega arith)
+    ∙ overlay-sets (place ∷ units ∷ []) (flatNames rs) l (nameWidth * length rs) n (omega arith)
     ∙ ap (λ (x : List ℕ). overlay x l) (sym (flat-names rs (nameRow place units ∷ [])))
 
-pub qnames-put : (rs : List QnameRow) (l : List ℕ) (uri prefix local : ℕ) → 3 * length rs + 3 ≤ length l
+pub qnames-put : (rs : List QnameRow) (l : List ℕ) (uri prefix local : ℕ) → qnameWidth * length rs + qnameWidth ≤ length l
     → put3 (overlay (flatQnames rs) l) (length rs) uri prefix local ≡ overlay (flatQnames (rs ++ (qnameRow uri prefix local ∷ []))) l
 qnames-put rs l uri prefix local h =
-    let n : 3 * length rs ≡ length (flatQnames rs) = sym (length-qnames rs) in
+    let n : qnameWidth * length rs ≡ length (flatQnames rs) = sym (length-qnames rs) in
     run3 (overlay (flatQnames rs) l) (length rs) uri prefix local
-    ∙ overlay-sets (uri ∷ prefix ∷ local ∷ []) (flatQnames rs) l (3 * length rs) n (omega arith)
+    ∙ overlay-sets (uri ∷ prefix ∷ local ∷ []) (flatQnames rs) l (qnameWidth * length rs) n (omega arith)
     ∙ ap (λ (x : List ℕ). overlay x l) (sym (flat-qnames rs (qnameRow uri prefix local ∷ [])))
 
-pub events-put : (rs : List EventRow) (l : List ℕ) (token place a b : ℕ) → 4 * length rs + 4 ≤ length l
+pub events-put : (rs : List EventRow) (l : List ℕ) (token place a b : ℕ) → eventWidth * length rs + eventWidth ≤ length l
     → put4 (overlay (flatEvents rs) l) (length rs) token place a b ≡ overlay (flatEvents (rs ++ (event token place a b ∷ []))) l
 events-put rs l token place a b h =
-    let n : 4 * length rs ≡ length (flatEvents rs) = sym (length-events rs) in
+    let n : eventWidth * length rs ≡ length (flatEvents rs) = sym (length-events rs) in
     run4 (overlay (flatEvents rs) l) (length rs) token place a b
-    ∙ overlay-sets (token ∷ place ∷ a ∷ b ∷ []) (flatEvents rs) l (4 * length rs) n (omega arith)
+    ∙ overlay-sets (token ∷ place ∷ a ∷ b ∷ []) (flatEvents rs) l (eventWidth * length rs) n (omega arith)
     ∙ ap (λ (x : List ℕ). overlay x l) (sym (flat-events rs (event token place a b ∷ [])))

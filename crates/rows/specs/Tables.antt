@@ -1,4 +1,4 @@
--- What each step does to the code's tables and to its view, number by number. Cited by the contracts of private functions.
+-- Serves the code. What each step does to the code's tables and to its view, number by number.
 use Prim.Native.Nat.{ℕ, zero, suc, _+_, _-_, _*_, _≤_}
 use mathlib.Core.Path.{_≡_}
 use mathlib.Core.List.{List}
@@ -11,6 +11,8 @@ use Rattle.scan.specs.declared.Room.{Room}
 use Rattle.scan.specs.declared.Step.{Step}
 use Rattle.scan.specs.declared.Step.the-variants as step
 use Rattle.machine.specs.declared.Answer.{Answer}
+use Rattle.token.specs.Codes.{ELEMENT-TOKEN, PI-TOKEN, ENDELEMENT-TOKEN, NEST-TOKEN, ENDNEST-TOKEN}
+use Rattle.token.specs.Answers.{nameWidth, qnameWidth, eventWidth}
 
 -- the three lent tables, the stacks of name rows and qname rows of all open documents, and what returns after a nested one
 pub record Tables : Type 0 where
@@ -26,13 +28,13 @@ tables names qnames events stack qstack frames =
     record { names = names; qnames = qnames; events = events; stack = stack; qstack = qstack; frames = frames }
 
 abbrev pub put2 : List ℕ → ℕ → ℕ → ℕ → List ℕ
-put2 l row a b = set (set l (2 * row) a) (2 * row + 1) b
+put2 l row a b = set (set l (nameWidth * row) a) (nameWidth * row + 1) b
 
 abbrev pub put3 : List ℕ → ℕ → ℕ → ℕ → ℕ → List ℕ
-put3 l row a b c = set (set (set l (3 * row) a) (3 * row + 1) b) (3 * row + 2) c
+put3 l row a b c = set (set (set l (qnameWidth * row) a) (qnameWidth * row + 1) b) (qnameWidth * row + 2) c
 
 abbrev pub put4 : List ℕ → ℕ → ℕ → ℕ → ℕ → ℕ → List ℕ
-put4 l row a b c d = set (set (set (set l (4 * row) a) (4 * row + 1) b) (4 * row + 2) c) (4 * row + 3) d
+put4 l row a b c d = set (set (set (set l (eventWidth * row) a) (eventWidth * row + 1) b) (eventWidth * row + 2) c) (eventWidth * row + 3) d
 
 -- a document's frame: where its names and qnames stand in the stacks, how many there are, its open elements, its version
 abbrev pub put6 : List ℕ → ℕ → View → List ℕ
@@ -155,8 +157,8 @@ entered v next =
       events = v .events + 1;
     }
 
-abbrev pub closed : View → ℕ → View
-closed v next =
+abbrev pub elementClosed : View → ℕ → View
+elementClosed v next =
     record {
       at = next;
       mode = Content;
@@ -226,15 +228,15 @@ tablesAfter t v (step.Event token a b mode next) =
 tablesAfter t v (step.Refer token number mode next) =
     tables (t .names) (t .qnames) (put4 (t .events) (v .events) token (v .at) (rowAt (t .qstack) (v .qbase) (number .0)) 0) (t .stack) (t .qstack) (t .frames)
 tablesAfter t v (step.Open number next) =
-    tables (t .names) (t .qnames) (put4 (t .events) (v .events) 0xF8 (v .at) (rowAt (t .qstack) (v .qbase) (number .0)) 0) (t .stack) (t .qstack) (t .frames)
+    tables (t .names) (t .qnames) (put4 (t .events) (v .events) ELEMENT-TOKEN (v .at) (rowAt (t .qstack) (v .qbase) (number .0)) 0) (t .stack) (t .qstack) (t .frames)
 tablesAfter t v (step.Pi target start next) =
-    tables (t .names) (t .qnames) (put4 (t .events) (v .events) 0xF4 (v .at) (rowAt (t .stack) (v .base) (target .0)) start) (t .stack) (t .qstack) (t .frames)
+    tables (t .names) (t .qnames) (put4 (t .events) (v .events) PI-TOKEN (v .at) (rowAt (t .stack) (v .base) (target .0)) start) (t .stack) (t .qstack) (t .frames)
 tablesAfter t v (step.Close next) =
-    tables (t .names) (t .qnames) (put4 (t .events) (v .events) 0xF7 (v .at) 0 0) (t .stack) (t .qstack) (t .frames)
+    tables (t .names) (t .qnames) (put4 (t .events) (v .events) ENDELEMENT-TOKEN (v .at) 0 0) (t .stack) (t .qstack) (t .frames)
 tablesAfter t v (step.Nest version next) =
-    tables (t .names) (t .qnames) (put4 (t .events) (v .events) 0xEC (v .at) version 0) (t .stack) (t .qstack) (put6 (t .frames) (v .depth) v)
+    tables (t .names) (t .qnames) (put4 (t .events) (v .events) NEST-TOKEN (v .at) version 0) (t .stack) (t .qstack) (put6 (t .frames) (v .depth) v)
 tablesAfter t v (step.Leave next) =
-    tables (t .names) (t .qnames) (put4 (t .events) (v .events) 0xEB (v .at) 0 0) (t .stack) (t .qstack) (t .frames)
+    tables (t .names) (t .qnames) (put4 (t .events) (v .events) ENDNEST-TOKEN (v .at) 0 0) (t .stack) (t .qstack) (t .frames)
 
 -- the view after a step
 abbrev pub viewAfter : Tables → View → Step → View
@@ -247,7 +249,7 @@ viewAfter t v (step.Event token a b mode next) = evented v mode next
 viewAfter t v (step.Refer token number mode next) = evented v mode next
 viewAfter t v (step.Open number next) = entered v next
 viewAfter t v (step.Pi target start next) = evented v (afterMisc (v .mode)) next
-viewAfter t v (step.Close next) = closed v next
+viewAfter t v (step.Close next) = elementClosed v next
 viewAfter t v (step.Nest version next) = inside v version next
 viewAfter t v (step.Leave next) = outside (t .frames) v next
 
@@ -270,8 +272,8 @@ pub record Held (size : ℕ) (room : Room) (t : Tables) (v : View) : Type 0 wher
   pub short : size ≤ 65536
   pub at-in : v .at ≤ size
   pub names-room : 2 * room .names ≤ length (t .names)
-  pub qnames-room : 3 * room .qnames ≤ length (t .qnames)
-  pub events-room : 4 * room .events ≤ length (t .events)
+  pub qnames-room : qnameWidth * room .qnames ≤ length (t .qnames)
+  pub events-room : eventWidth * room .events ≤ length (t .events)
   pub few-names : room .names ≤ 1024
   pub few-qnames : room .qnames ≤ 1024
   pub few-events : room .events ≤ 4096
@@ -288,12 +290,12 @@ pub record Held (size : ℕ) (room : Room) (t : Tables) (v : View) : Type 0 wher
   pub frames-long : length (t .frames) ≡ 48
 
 -- what holds before the first step, of the tables that are lent
-pub record Begins (size : ℕ) (room : Room) (names qnames events : List ℕ) (next : ℕ) : Type 0 where
+pub record ReadingBegins (size : ℕ) (room : Room) (names qnames events : List ℕ) (next : ℕ) : Type 0 where
   pub short : size ≤ 65536
   pub at-in : next ≤ size
   pub names-room : 2 * room .names ≤ length names
-  pub qnames-room : 3 * room .qnames ≤ length qnames
-  pub events-room : 4 * room .events ≤ length events
+  pub qnames-room : qnameWidth * room .qnames ≤ length qnames
+  pub events-room : eventWidth * room .events ≤ length events
   pub few-names : room .names ≤ 1024
   pub few-qnames : room .qnames ≤ 1024
   pub few-events : room .events ≤ 4096

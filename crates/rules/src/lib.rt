@@ -32,12 +32,6 @@ pub fn time_bytes(precision: u8) -> usize
 
 // ---- the value rules
 
-fn wide(b: u8) -> usize
-    ensures { λ r. ⌜ (r ≡ b) × (r < 256) ⌝ }
-{
-    b as usize
-}
-
 fn decimal_lawful(p: &[u8]) -> bool
     ensures { λ r. ⌜ r ≡ decimalLawful (now (p .entry)) ⌝ }
 {
@@ -58,7 +52,8 @@ fn day_within(first: usize, last: usize, p: &[u8], at: usize) -> bool
     requires { ⌜ at + 3 ≤ length (now p) ⌝ }
     ensures { λ r. ⌜ r ≡ dayWithin first last (part (now (p .entry)) at 3) ⌝ }
 {
-    let day = wide(p[at]) + 256 * (wide(p[at + 1]) + 256 * wide(p[at + 2]));
+    let day = slices::wide_place(p[at])
+        + 256 * (slices::wide_place(p[at + 1]) + 256 * slices::wide_place(p[at + 2]));
     if day < first {
         return false;
     }
@@ -69,7 +64,7 @@ fn zone_lawful(p: &[u8], at: usize) -> bool
     requires { ⌜ at + 2 ≤ length (now p) ⌝ }
     ensures { λ r. ⌜ r ≡ zoneLawful (part (now (p .entry)) at 2) ⌝ }
 {
-    let zone = wide(p[at]) + 256 * wide(p[at + 1]);
+    let zone = slices::wide_place(p[at]) + 256 * slices::wide_place(p[at + 1]);
     if zone <= 840 {
         return true;
     }
@@ -80,7 +75,7 @@ fn stamp_lawful(low: usize, p: &[u8]) -> bool
     ensures { λ r. ⌜ r ≡ lawful (Shape.Stamp low) (now (p .entry)) ⌝ }
 {
     if p.len() == 8 {
-        return wide(p[0]) % 4 == low;
+        return slices::wide_place(p[0]) % 4 == low;
     }
     false
 }

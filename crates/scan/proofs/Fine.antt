@@ -13,23 +13,26 @@ use Rattle.token.specs.Tokens.{classOf, shapeOf}
 use Rattle.token.specs.declared.NameNumber.{NameNumber}
 use Rattle.token.specs.declared.Class.{Class}
 use Rattle.token.specs.declared.Class.the-variants as class
-use Rattle.number.specs.Number.{numberAt, Within}
+use Rattle.number.specs.Number.{numberAt}
+use Rattle.number.specs.Bounds.{Within}
 use Rattle.number.specs.declared.Number.{Number}
 use Rattle.number.specs.declared.Number.the-variants as number
-use Rattle.value.specs.Fields.{textAt, fieldAt, Lies, Inside}
+use Rattle.value.specs.Fields.{textAt, fieldAt}
+use Rattle.value.specs.Bounds.{Lies, Inside}
 use Rattle.value.specs.declared.Text.{Text}
 use Rattle.value.specs.declared.Text.the-variants as text
 use Rattle.value.specs.declared.Field.{Field}
 use Rattle.value.specs.declared.Field.the-variants as field
-use Rattle.fields.specs.References.{nameAt, qnameAt, NameWithin, QnameWithin}
-use Rattle.fields.specs.Headers.{headerAt, HeaderWithin}
+use Rattle.fields.specs.References.{nameAt, qnameAt}
+use Rattle.fields.specs.Bounds.{NameWithin, QnameWithin, HeaderWithin}
+use Rattle.fields.specs.Headers.{headerAt}
 use Rattle.fields.specs.declared.Name.{Name}
 use Rattle.fields.specs.declared.Name.the-variants as name
 use Rattle.fields.specs.declared.Qname.{Qname}
 use Rattle.fields.specs.declared.Qname.the-variants as qname
 use Rattle.fields.specs.declared.Header.{Header}
 use Rattle.fields.specs.declared.Header.the-variants as header
-use Rattle.modes.specs.Modes.{content, declares, is, allowed, afterMisc}
+use Rattle.modes.specs.Modes.{content, inDeclaration, is, allowed, afterMisc}
 use Rattle.scan.specs.Steps.{eventDue, textAfter, textStep, nameAfter, nameStep, localAfter, prefixAfter, uriAfter, qnameStep, extensionAfter, extensionStep, dataAfter, targetAfter, piStep, openAfter, elementStep, attributeAfter, attributeStep, valueAfter, valueStep, nestAfter, nestStep, classStep, tokenStep, declaredStep, endStep, stepAt}
 use Rattle.modes.specs.declared.Mode.{Mode}
 use Rattle.modes.specs.declared.Mode.the-variants.{Content, AfterDocType, AfterSystem, AfterPublic, Cdata, AfterXmlDecl, AfterEncoding}
@@ -175,7 +178,7 @@ module _ (doc : List ℕ) (v : View) (room : Room) where
   step-fine =
       cond-if (Fine (length doc) v room) (ltb (v .at) (length doc)) _ _
       (λ t. let h = ltb-true _ _ t in
-      cond-if (Fine (length doc) v room) (declares (v .mode)) _ _ (λ u. declared-fine h (getD doc (v .at) 0)) (λ u. token-fine h (getD doc (v .at) 0)))
+      cond-if (Fine (length doc) v room) (inDeclaration (v .mode)) _ _ (λ u. declared-fine h (getD doc (v .at) 0)) (λ u. token-fine h (getD doc (v .at) 0)))
       (λ t. cond-if (Fine (length doc) v room) (eqb (v .depth) 0 && eqb (v .elements) 0 && content (v .mode)) _ _ (λ u. tt) (λ u. tt))
 
   pub found-fine : {r : Step} → r ≡ stepAt doc v room → Fine (length doc) v room r

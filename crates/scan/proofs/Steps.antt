@@ -25,7 +25,7 @@ use Rattle.fields.specs.declared.Name.{Name}
 use Rattle.fields.specs.declared.Name.the-variants as name
 use Rattle.fields.specs.declared.Qname.{Qname}
 use Rattle.fields.specs.declared.Header.{Header}
-use Rattle.modes.specs.Modes.{content, declares, is, numberOf, allowed, afterValue}
+use Rattle.modes.specs.Modes.{content, inDeclaration, is, numberOf, allowed, afterValue}
 use Rattle.scan.specs.Steps.{eventDue, textAfter, textStep, nameAfter, nameStep, localAfter, prefixAfter, uriAfter, qnameStep, extensionAfter, extensionStep, dataAfter, targetAfter, piStep, openAfter, elementStep, attributeAfter, attributeStep, valueAfter, valueStep, nestAfter, nestStep, classStep, tokenStep, declaredStep, endStep, stepAt}
 use Rattle.modes.specs.declared.Mode.{Mode}
 use Rattle.modes.specs.declared.Mode.the-variants.{Prolog, AfterXmlDecl, AfterEncoding}
@@ -134,14 +134,14 @@ module _ (doc : List ℕ) (v : View) (room : Room) where
     unfolding stepAt
     in-declaration h e =
         let k : 9 ≤ numberOf (v .mode) = rw number at h in
-        let d : declares (v .mode) ≡ true = sym (declares-is (v .mode)) ∙ simp (tests, k) in
+        let d : inDeclaration (v .mode) ≡ true = sym (declares-is (v .mode)) ∙ simp (tests, k) in
         rw e (simp (tests, here, d))
 
     pub at-token : m < 9 → {b : ℕ} → b ≡ getD doc (v .at) 0 → tokenStep doc v room b ≡ stepAt doc v room
     unfolding stepAt
     at-token h e =
         let k : numberOf (v .mode) < 9 = rw number at h in
-        let d : declares (v .mode) ≡ false = sym (declares-is (v .mode)) ∙ simp (tests, k) in
+        let d : inDeclaration (v .mode) ≡ false = sym (declares-is (v .mode)) ∙ simp (tests, k) in
         rw e (simp (tests, here, d))
 
 module _ (v : View) (room : Room) (place units next : ℕ) where

@@ -1,4 +1,4 @@
--- Bounds that a caller of the scanner needs, by what it found.
+-- Serves the code. Bounds that a caller of the scanner needs, by what it found.
 use Prim.Native.Nat.{ℕ, _+_, _*_, _≤_, _<_}
 use mathlib.Core.Path.{_≡_}
 use Rattle.modes.specs.declared.View.{View}

@@ -10,6 +10,7 @@ use Rattle.token.specs.Tokens.{classOf, shapeOf}
 use Rattle.token.specs.declared.NameNumber.{NameNumber}
 use Rattle.token.specs.declared.Class.{Class}
 use Rattle.token.specs.declared.Class.the-variants as class
+use Rattle.token.specs.Codes.{ATTRIBUTE-TOKEN, ENCODING-TOKEN}
 use Rattle.number.specs.Number.{numberAt}
 use Rattle.number.specs.declared.Number.{Number}
 use Rattle.number.specs.declared.Number.the-variants as number
@@ -26,7 +27,7 @@ use Rattle.fields.specs.declared.Qname.{Qname}
 use Rattle.fields.specs.declared.Qname.the-variants as qname
 use Rattle.fields.specs.declared.Header.{Header}
 use Rattle.fields.specs.declared.Header.the-variants as header
-use Rattle.modes.specs.Modes.{content, declares, is, allowed, afterMisc, afterValue}
+use Rattle.modes.specs.Modes.{content, inDeclaration, is, allowed, afterMisc, afterValue}
 use Rattle.modes.specs.declared.Mode.{Mode}
 use Rattle.modes.specs.declared.Mode.the-variants.{Content, Prolog, AfterDocType, AfterSystem, AfterPublic, Attributes, Cdata, AfterXmlDecl, AfterEncoding}
 use Rattle.modes.specs.declared.View.{View}
@@ -104,7 +105,7 @@ elementStep doc v room =
     cond (ltb (v .opened) openElements) (openAfter v room (qnameAt (v .qknown) doc (v .at + 1))) (step.Stop tooDeep (v .at))
 
 abbrev pub attributeAfter : View → Room → Qname → Step
-attributeAfter v room (qname.Is number next) = eventDue v room (step.Refer 0xF6 number Attributes next)
+attributeAfter v room (qname.Is number next) = eventDue v room (step.Refer ATTRIBUTE-TOKEN number Attributes next)
 attributeAfter v room (qname.Refused number place) = step.Stop number place
 
 unfoldable pub attributeStep : List ℕ → View → Room → Step
@@ -166,7 +167,7 @@ tokenStep doc v room token =
 -- in an XML declaration: ENCODING after the version's text, or the standalone byte; every other byte is 7
 unfoldable pub declaredStep : List ℕ → View → Room → ℕ → Step
 declaredStep doc v room byte =
-    cond (is (v .mode) AfterXmlDecl && eqb byte 0xFD) (textStep doc v room byte AfterEncoding)
+    cond (is (v .mode) AfterXmlDecl && eqb byte ENCODING-TOKEN) (textStep doc v room byte AfterEncoding)
     (cond (leb byte 2) (eventDue v room (step.Event 0 byte 0 Prolog (v .at + 1))) (step.Stop badValue (v .at)))
 
 -- the input may end only at root of the outer document, nothing open
@@ -177,5 +178,5 @@ endStep size v = cond (eqb (v .depth) 0 && eqb (v .elements) 0 && content (v .mo
 unfoldable pub stepAt : List ℕ → View → Room → Step
 stepAt doc v room =
     cond (ltb (v .at) (length doc))
-    (cond (declares (v .mode)) (declaredStep doc v room (getD doc (v .at) 0)) (tokenStep doc v room (getD doc (v .at) 0)))
+    (cond (inDeclaration (v .mode)) (declaredStep doc v room (getD doc (v .at) 0)) (tokenStep doc v room (getD doc (v .at) 0)))
     (endStep (length doc) v)

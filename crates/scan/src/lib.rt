@@ -148,7 +148,10 @@ fn declared_step(doc: &[u8], v: View, room: Room, byte: u8) -> Step
     ensures { λ r. ⌜ r ≡ declaredStep (now (doc .entry)) v room byte ⌝ }
 {
     let mode = v.mode;
-    if both(modes::number_of(mode) == 9, byte == 0xFD) {
+    if both(
+        modes::number_of(mode) == modes::AFTER_XMLDECL,
+        byte == token::ENCODING_TOKEN,
+    ) {
         return tokens::text_step(doc, v, room, byte, Mode::AfterEncoding);
     }
     if 2 < byte {

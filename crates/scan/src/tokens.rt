@@ -200,7 +200,7 @@ pub fn attribute_step(doc: &[u8], v: View, room: Room) -> Step
             v,
             room,
             Step::Refer {
-                token: 0xF6,
+                token: token::ATTRIBUTE_TOKEN,
                 number,
                 mode: Mode::Attributes,
                 next,

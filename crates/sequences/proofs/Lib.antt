@@ -4,3 +4,5 @@ pub mod Table
 pub mod Overlay
 pub mod Units
 pub mod Store
+pub mod Same
+pub mod Members

@@ -1,7 +1,9 @@
 -- How a lent table, buffer or array relates to a list, and the bytes of UTF-16LE text. Cited by the contracts of several crates.
 use Prim.Native.Nat.{ℕ, _+_, _*_, _/_, _%_, _<_}
 use mathlib.Core.Path.{_≡_}
+use mathlib.Core.Bool.{Bool, true, false, _&&_}
 use mathlib.Core.List.{List, [], _∷_, _++_}
+use lib.Dec.{eqb}
 use lib.ListN.{length, getD, take, drop}
 
 -- `front` laid over the front of a table or buffer; what stands past it stays
@@ -15,6 +17,13 @@ Front stack l = take (length stack) l ≡ stack
 -- the `size` elements from `place` on
 abbrev pub part : {A : Type 0} → List A → ℕ → ℕ → List A
 part l place size = take size (drop place l)
+
+-- two lists are the same, element by element
+abbrev pub same : List ℕ → List ℕ → Bool
+same [] [] = true
+same [] (y ∷ t) = false
+same (x ∷ s) [] = false
+same (x ∷ s) (y ∷ t) = eqb x y && same s t
 
 -- a list of bytes, as a slice of bytes holds one
 pub record Bytes (l : List ℕ) : Type 0 where

@@ -19,6 +19,7 @@ use Rattle.scan.specs.declared.Step.the-variants as step
 use Rattle.machine.specs.Rows.{event, flatNames, flatQnames, flatEvents}
 use Rattle.token.specs.declared.NameNumber.{NameNumber}
 use Rattle.token.specs.declared.QnameNumber.{QnameNumber}
+use Rattle.token.specs.Answers.{qnameWidth, eventWidth}
 use Rattle.machine.specs.Machine.{Scope, scope, State, view, namesIn, qnamesIn, elementsIn, rowOf, onward, returned, apply}
 use Rattle.rows.specs.Tables.{Tables, put2, put4, tablesAfter, Turned, Held}
 use Rattle.rows.proofs.Puts.{names-put, qnames-put, events-put}
@@ -93,19 +94,19 @@ module _ {n₀ q₀ e₀ : List ℕ} {s : State} {t : Tables} {size : ℕ} {room
       let e : length (t .names) ≡ length (overlay (flatNames (s .names)) n₀) = ap length (i .names-are) in
       longer (flatNames (s .names)) n₀ (2 * length (s .names) + 2) (omega arith) (omega arith)
 
-  qnames-fit : length (s .qnames) < room .qnames → 3 * length (s .qnames) + 3 ≤ length q₀
+  qnames-fit : length (s .qnames) < room .qnames → qnameWidth * length (s .qnames) + 3 ≤ length q₀
   qnames-fit f =
       let n = length-qnames (s .qnames) in
       let r = h .qnames-room in
       let e : length (t .qnames) ≡ length (overlay (flatQnames (s .qnames)) q₀) = ap length (i .qnames-are) in
-      longer (flatQnames (s .qnames)) q₀ (3 * length (s .qnames) + 3) (omega arith) (omega arith)
+      longer (flatQnames (s .qnames)) q₀ (qnameWidth * length (s .qnames) + 3) (omega arith) (omega arith)
 
-  events-fit : length (s .events) < room .events → 4 * length (s .events) + 4 ≤ length e₀
+  events-fit : length (s .events) < room .events → eventWidth * length (s .events) + 4 ≤ length e₀
   events-fit f =
       let n = length-events (s .events) in
       let r = h .events-room in
       let e : length (t .events) ≡ length (overlay (flatEvents (s .events)) e₀) = ap length (i .events-are) in
-      longer (flatEvents (s .events)) e₀ (4 * length (s .events) + 4) (omega arith) (omega arith)
+      longer (flatEvents (s .events)) e₀ (eventWidth * length (s .events) + 4) (omega arith) (omega arith)
 
   -- an event's row
   event-stored : (token a b : ℕ) → length (s .events) < room .events

@@ -4,7 +4,9 @@ ghost use Prim.Native.Nat.{_+_, _*_, _≤_, _<_};
 ghost use lib.ListN.{length, getD, set};
 ghost use Rattle.scan.specs.Bounds.{Fine};
 ghost use Rattle.modes.specs.Modes.{afterMisc};
-ghost use Rattle.rows.specs.Tables.{tables, put2, put3, put4, put6, rowAt, evented, named, qnamed, entered, closed, inside, outside, Turned, Held};
+ghost use Rattle.rows.specs.Tables.{tables, put2, put3, put4, put6, rowAt, evented, named, qnamed, entered, elementClosed, inside, outside, Turned, Held};
+ghost use Rattle.token.specs.Codes.{ELEMENT-TOKEN, PI-TOKEN, ENDELEMENT-TOKEN, NEST-TOKEN, ENDNEST-TOKEN};
+ghost use Rattle.token.specs.Answers.{nameWidth, qnameWidth, eventWidth};
 use modes::Mode;
 use modes::View;
 use scan::Room;
@@ -14,13 +16,13 @@ use token::QnameNumber;
 
 fn define_name(
     names: &mut [u32],
-    stack: &mut [u32; 1024],
+    stack: &mut [u32; token::NAME_ROWS],
     v: View,
     place: usize,
     units: usize,
     next: usize,
 ) -> View
-    requires { ⌜ (v .names < 1024) × (2 * v .names + 2 ≤ length (now names)) × (place ≤ 65536) × (units ≤ 65536)
+    requires { ⌜ (v .names < 1024) × (nameWidth * v .names + nameWidth ≤ length (now names)) × (place ≤ 65536) × (units ≤ 65536)
         × (v .base + v .known ≤ v .names) × (length (now stack) ≡ 1024) ⌝ }
     ensures { λ r. ⌜ (now (names .exit) ≡ put2 (now (names .entry)) (v .names) place units)
         × (now (stack .exit) ≡ set (now (stack .entry)) (v .base + v .known) (v .names + 1)) × (r ≡ named v next) ⌝ }
@@ -32,15 +34,15 @@ fn define_name(
 
 fn define_qname(
     qnames: &mut [u32],
-    stack: &[u32; 1024],
-    qstack: &mut [u32; 1024],
+    stack: &[u32; token::NAME_ROWS],
+    qstack: &mut [u32; token::QNAME_ROWS],
     v: View,
     uri: NameNumber,
     prefix: NameNumber,
     local: NameNumber,
     next: usize,
 ) -> View
-    requires { ⌜ (v .qnames < 1024) × (3 * v .qnames + 3 ≤ length (now qnames)) × (v .base + uri .0 ≤ 1024) × (v .base + prefix .0 ≤ 1024)
+    requires { ⌜ (v .qnames < 1024) × (qnameWidth * v .qnames + qnameWidth ≤ length (now qnames)) × (v .base + uri .0 ≤ 1024) × (v .base + prefix .0 ≤ 1024)
         × (v .base + local .0 ≤ 1024) × (v .qbase + v .qknown ≤ v .qnames) × (length (now stack) ≡ 1024) × (length (now qstack) ≡ 1024) ⌝ }
     ensures { λ r. ⌜ (now (qnames .exit) ≡ put3 (now (qnames .entry)) (v .qnames) (rowAt (now (stack .entry)) (v .base) (uri .0))
         (rowAt (now (stack .entry)) (v .base) (prefix .0)) (rowAt (now (stack .entry)) (v .base) (local .0)))
@@ -63,7 +65,7 @@ fn add_event(
     mode: Mode,
     next: usize,
 ) -> View
-    requires { ⌜ (v .events < 4096) × (4 * v .events + 4 ≤ length (now events)) × (v .at ≤ 65536) × (a ≤ 65538) × (b ≤ 65536) ⌝ }
+    requires { ⌜ (v .events < 4096) × (eventWidth * v .events + eventWidth ≤ length (now events)) × (v .at ≤ 65536) × (a ≤ 65538) × (b ≤ 65536) ⌝ }
     ensures { λ r. ⌜ (now (events .exit) ≡ put4 (now (events .entry)) (v .events) token (v .at) a b) × (r ≡ evented v mode next) ⌝ }
 {
     rows::put_event(events, v, token, a as u32, b as u32);
@@ -72,7 +74,7 @@ fn add_event(
 
 // A value of so many bytes, which stand behind its token.
 pub fn add_value(events: &mut [u32], doc: &[u8], v: View, size: usize) -> View
-    requires { ⌜ (v .events < 4096) × (4 * v .events + 4 ≤ length (now events)) × (v .at + 1 + size ≤ length (now doc)) × (length (now doc) ≤ 65536) ⌝ }
+    requires { ⌜ (v .events < 4096) × (eventWidth * v .events + eventWidth ≤ length (now events)) × (v .at + 1 + size ≤ length (now doc)) × (length (now doc) ≤ 65536) ⌝ }
     ensures { λ r. ⌜ (now (events .exit) ≡ put4 (now (events .entry)) (v .events) (getD (now (doc .entry)) (v .at) 0) (v .at) (v .at + 1) size)
         × (r ≡ evented v Mode.Content (v .at + 1 + size)) ⌝ }
 {
@@ -90,14 +92,14 @@ pub fn add_value(events: &mut [u32], doc: &[u8], v: View, size: usize) -> View
 
 fn add_reference(
     events: &mut [u32],
-    qstack: &[u32; 1024],
+    qstack: &[u32; token::QNAME_ROWS],
     v: View,
     token: u8,
     number: QnameNumber,
     mode: Mode,
     next: usize,
 ) -> View
-    requires { ⌜ (v .events < 4096) × (4 * v .events + 4 ≤ length (now events)) × (v .at ≤ 65536) × (v .qbase + number .0 ≤ 1024)
+    requires { ⌜ (v .events < 4096) × (eventWidth * v .events + eventWidth ≤ length (now events)) × (v .at ≤ 65536) × (v .qbase + number .0 ≤ 1024)
         × (length (now qstack) ≡ 1024) ⌝ }
     ensures { λ r. ⌜ (now (events .exit) ≡ put4 (now (events .entry)) (v .events) token (v .at) (rowAt (now (qstack .entry)) (v .qbase) (number .0)) 0)
         × (r ≡ evented v mode next) ⌝ }
@@ -108,37 +110,43 @@ fn add_reference(
 
 pub fn add_element(
     events: &mut [u32],
-    qstack: &[u32; 1024],
+    qstack: &[u32; token::QNAME_ROWS],
     v: View,
     number: QnameNumber,
     next: usize,
 ) -> View
-    requires { ⌜ (v .events < 4096) × (4 * v .events + 4 ≤ length (now events)) × (v .at ≤ 65536) × (v .qbase + number .0 ≤ 1024)
+    requires { ⌜ (v .events < 4096) × (eventWidth * v .events + eventWidth ≤ length (now events)) × (v .at ≤ 65536) × (v .qbase + number .0 ≤ 1024)
         × (length (now qstack) ≡ 1024) × (v .elements ≤ 64) × (v .opened ≤ 64) ⌝ }
-    ensures { λ r. ⌜ (now (events .exit) ≡ put4 (now (events .entry)) (v .events) 0xF8 (v .at) (rowAt (now (qstack .entry)) (v .qbase) (number .0)) 0)
+    ensures { λ r. ⌜ (now (events .exit) ≡ put4 (now (events .entry)) (v .events) ELEMENT-TOKEN (v .at) (rowAt (now (qstack .entry)) (v .qbase) (number .0)) 0)
         × (r ≡ entered v next) ⌝ }
 {
-    rows::put_event(events, v, 0xF8, rows::qname_row(qstack, v, number), 0);
+    rows::put_event(
+        events,
+        v,
+        token::ELEMENT_TOKEN,
+        rows::qname_row(qstack, v, number),
+        0,
+    );
     rows::past_open(v, next)
 }
 
 fn add_pi(
     events: &mut [u32],
-    stack: &[u32; 1024],
+    stack: &[u32; token::NAME_ROWS],
     v: View,
     target: NameNumber,
     start: usize,
     next: usize,
 ) -> View
-    requires { ⌜ (v .events < 4096) × (4 * v .events + 4 ≤ length (now events)) × (v .at ≤ 65536) × (v .base + target .0 ≤ 1024)
+    requires { ⌜ (v .events < 4096) × (eventWidth * v .events + eventWidth ≤ length (now events)) × (v .at ≤ 65536) × (v .base + target .0 ≤ 1024)
         × (length (now stack) ≡ 1024) × (start ≤ 65536) ⌝ }
-    ensures { λ r. ⌜ (now (events .exit) ≡ put4 (now (events .entry)) (v .events) 0xF4 (v .at) (rowAt (now (stack .entry)) (v .base) (target .0)) start)
+    ensures { λ r. ⌜ (now (events .exit) ≡ put4 (now (events .entry)) (v .events) PI-TOKEN (v .at) (rowAt (now (stack .entry)) (v .base) (target .0)) start)
         × (r ≡ evented v (afterMisc (v .mode)) next) ⌝ }
 {
     rows::put_event(
         events,
         v,
-        0xF4,
+        token::PI_TOKEN,
         rows::name_row(stack, v, target),
         start as u32,
     );
@@ -147,10 +155,10 @@ fn add_pi(
 }
 
 pub fn close_element(events: &mut [u32], v: View, next: usize) -> View
-    requires { ⌜ (v .events < 4096) × (4 * v .events + 4 ≤ length (now events)) × (v .at ≤ 65536) × (0 < v .elements) × (v .elements ≤ v .opened) ⌝ }
-    ensures { λ r. ⌜ (now (events .exit) ≡ put4 (now (events .entry)) (v .events) 0xF7 (v .at) 0 0) × (r ≡ closed v next) ⌝ }
+    requires { ⌜ (v .events < 4096) × (eventWidth * v .events + eventWidth ≤ length (now events)) × (v .at ≤ 65536) × (0 < v .elements) × (v .elements ≤ v .opened) ⌝ }
+    ensures { λ r. ⌜ (now (events .exit) ≡ put4 (now (events .entry)) (v .events) ENDELEMENT-TOKEN (v .at) 0 0) × (r ≡ elementClosed v next) ⌝ }
 {
-    rows::put_event(events, v, 0xF7, 0, 0);
+    rows::put_event(events, v, token::ENDELEMENT_TOKEN, 0, 0);
     rows::past_close(v, next)
 }
 
@@ -161,22 +169,22 @@ fn enter_document(
     version: usize,
     next: usize,
 ) -> View
-    requires { ⌜ (v .events < 4096) × (4 * v .events + 4 ≤ length (now events)) × (v .at ≤ 65536) × (version ≤ 2) × (v .depth < 8)
+    requires { ⌜ (v .events < 4096) × (eventWidth * v .events + eventWidth ≤ length (now events)) × (v .at ≤ 65536) × (version ≤ 2) × (v .depth < 8)
         × (length (now frames) ≡ 48) × (v .base + v .known ≤ 1024) × (v .qbase + v .qknown ≤ 1024) ⌝ }
-    ensures { λ r. ⌜ (now (events .exit) ≡ put4 (now (events .entry)) (v .events) 0xEC (v .at) version 0)
+    ensures { λ r. ⌜ (now (events .exit) ≡ put4 (now (events .entry)) (v .events) NEST-TOKEN (v .at) version 0)
         × (now (frames .exit) ≡ put6 (now (frames .entry)) (v .depth) v) × (r ≡ inside v version next) ⌝ }
 {
-    rows::put_event(events, v, 0xEC, version as u32, 0);
+    rows::put_event(events, v, token::NEST_TOKEN, version as u32, 0);
     rows::put_frame(frames, v);
     rows::past_nest(v, version, next)
 }
 
 fn leave_document(events: &mut [u32], frames: &[usize; 48], v: View, next: usize) -> View
-    requires { ⌜ (v .events < 4096) × (4 * v .events + 4 ≤ length (now events)) × (v .at ≤ 65536) × (0 < v .depth) × (v .depth ≤ 8)
+    requires { ⌜ (v .events < 4096) × (eventWidth * v .events + eventWidth ≤ length (now events)) × (v .at ≤ 65536) × (0 < v .depth) × (v .depth ≤ 8)
         × (length (now frames) ≡ 48) ⌝ }
-    ensures { λ r. ⌜ (now (events .exit) ≡ put4 (now (events .entry)) (v .events) 0xEB (v .at) 0 0) × (r ≡ outside (now (frames .entry)) v next) ⌝ }
+    ensures { λ r. ⌜ (now (events .exit) ≡ put4 (now (events .entry)) (v .events) ENDNEST-TOKEN (v .at) 0 0) × (r ≡ outside (now (frames .entry)) v next) ⌝ }
 {
-    rows::put_event(events, v, 0xEB, 0, 0);
+    rows::put_event(events, v, token::ENDNEST_TOKEN, 0, 0);
     rows::past_leave(frames, v, next)
 }
 
@@ -185,8 +193,8 @@ pub fn turn(
     names: &mut [u32],
     qnames: &mut [u32],
     events: &mut [u32],
-    stack: &mut [u32; 1024],
-    qstack: &mut [u32; 1024],
+    stack: &mut [u32; token::NAME_ROWS],
+    qstack: &mut [u32; token::QNAME_ROWS],
     frames: &mut [usize; 48],
     v: View,
     room: Room,

@@ -9,27 +9,27 @@ use Rattle.sequences.proofs.Overlay.{sets-append}
 use Rattle.hash.specs.Hash.{mixOf, hashFrom}
 use Rattle.hash.proofs.Hashes.{hash-append}
 use Rattle.symbols.specs.declared.Cursor.{Cursor}
-use Rattle.symbols.specs.Store.{Put, PutHashed}
+use Rattle.symbols.specs.Store.{NumbersPut, PutHashed}
 
 -- ---- one after the other
 
-pub put-put : {l₀ l₁ l₂ xs ys : List ℕ} {a b c : ℕ} → Put l₀ a xs l₁ b → Put l₁ b ys l₂ c → Put l₀ a (xs ++ ys) l₂ c
+pub put-put : {l₀ l₁ l₂ xs ys : List ℕ} {a b c : ℕ} → NumbersPut l₀ a xs l₁ b → NumbersPut l₁ b ys l₂ c → NumbersPut l₀ a (xs ++ ys) l₂ c
 put-put {l₀} {l₁} {l₂} {xs} {ys} {a} {b} {c} p q =
     record {
       stored = q .stored ∙ sym (sym (sets-append xs ys l₀ a) ∙ rw (← p .to-is, ← p .stored));
       to-is = simp length-append (omega (arith, p .to-is, q .to-is));
     }
 
-pub put-none : (l : List ℕ) (at : ℕ) → Put l at [] l at
+pub put-none : (l : List ℕ) (at : ℕ) → NumbersPut l at [] l at
 put-none l at = record { stored = refl; to-is = omega arith }
 
-pub put-long : {l₀ l₁ xs : List ℕ} {a b : ℕ} → Put l₀ a xs l₁ b → length l₁ ≡ length l₀
+pub put-long : {l₀ l₁ xs : List ℕ} {a b : ℕ} → NumbersPut l₀ a xs l₁ b → length l₁ ≡ length l₀
 put-long {l₀} {l₁} {xs} {a} {b} p = ap length (p .stored) ∙ length-sets l₀ a xs
 
-pub put-as : {l₀ l₁ xs ys : List ℕ} {a b : ℕ} → xs ≡ ys → Put l₀ a xs l₁ b → Put l₀ a ys l₁ b
-put-as {l₀} {l₁} {a = a} {b = b} e p = subst (λ (x : List ℕ). Put l₀ a x l₁ b) e p
+pub put-as : {l₀ l₁ xs ys : List ℕ} {a b : ℕ} → xs ≡ ys → NumbersPut l₀ a xs l₁ b → NumbersPut l₀ a ys l₁ b
+put-as {l₀} {l₁} {a = a} {b = b} e p = subst (λ (x : List ℕ). NumbersPut l₀ a x l₁ b) e p
 
-pub put-set : (l : List ℕ) (n v : ℕ) → Put l n (v ∷ []) (set l n v) (n + 1)
+pub put-set : (l : List ℕ) (n v : ℕ) → NumbersPut l n (v ∷ []) (set l n v) (n + 1)
 put-set l n v = record { stored = refl; to-is = refl }
 
 pub hashed-then : {l₀ l₁ l₂ xs ys : List ℕ} {a b c : Cursor} → PutHashed l₀ a xs l₁ b → PutHashed l₁ b ys l₂ c → PutHashed l₀ a (xs ++ ys) l₂ c

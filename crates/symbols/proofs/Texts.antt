@@ -11,7 +11,7 @@ use Rattle.sequences.specs.Lists.{bytesOf, unitsOf}
 use Rattle.numeral.specs.Puts.{Ends}
 use Rattle.plan.specs.Text.{textOf}
 use Rattle.plan.specs.Plans.{unitsBy, textBy, Means}
-use Rattle.units.specs.Units.{Begins, Stands, Loaded}
+use Rattle.units.specs.Units.{UnitsBegin, Stands, Loaded}
 use Rattle.plan.specs.declared.Plan.{Plan}
 use Rattle.plan.specs.declared.Plan.the-variants.{Nothing, Payload, Number, Boolean, HexDigits, Base64Letters}
 use Rattle.meaning.specs.Codes.{mark}
@@ -135,7 +135,7 @@ small-part {plan} {small} {at} p l e =
     ap unitsOf (take-all (82 - 2 * at) (drop (2 * at) small) f) ∙ small-units p l e
 
 -- a blob's text needs nothing of the small buffer
-pub blob-begins : (plan : Plan) → wayOf plan ≡ 3 → Begins plan 41
+pub blob-begins : (plan : Plan) → wayOf plan ≡ 3 → UnitsBegin plan 41
 blob-begins Nothing f = tt
 blob-begins Payload f = tt
 blob-begins (Number minus size scale) f = absurd (let x : ⊥ = omega arith in x)

@@ -1,4 +1,4 @@
--- The numbers of a value, and the way they are made.
+-- Serves the code. The numbers of a value, and the way they are made.
 use Prim.Native.Nat.{ℕ}
 use mathlib.Core.Option.{Option, none, some}
 use mathlib.Core.List.{List, _∷_, map}

@@ -17,6 +17,16 @@ ghost use Rattle.symbols.specs.Store.{PutHashed};
 ghost use Rattle.symbols.specs.Values.{valueCodes, wayOf};
 use plan::Plan;
 
+// The numbers of the marks that close an attribute and an element, and of the first mark of a value's token and of a byte; 8 more is the
+// next (`mark`, meaning/specs/Codes.antt).
+pub const END_MARK: u32 = 65539;
+
+pub const CLOSING_MARK: u32 = 65540;
+
+const TOKEN_MARK: u32 = 65541;
+
+const BYTE_MARK: u32 = 65542;
+
 // The place of the next number, and the hash of the record's numbers before it.
 pub struct Cursor {
     pub at: usize,
@@ -25,13 +35,8 @@ pub struct Cursor {
 
 // ---- numbers into the array
 
-pub fn wide(x: u8) -> u32
-    ensures { λ r. ⌜ (r ≡ x) × (r < 256) ⌝ }
-{
-    x as u32
-}
-
-pub fn widen(x: u16) -> u32
+// A unit of text as a number of the array.
+fn unit_number(x: u16) -> u32
     ensures { λ r. ⌜ r ≡ x ⌝ }
 {
     x as u32
@@ -59,7 +64,7 @@ pub fn put_units(src: &[u8], syms: &mut [u32], p: Cursor) -> Cursor
     let mut h = p.hash;
     let mut k = 0;
     while k < n {
-        let unit = wide(src[2 * k]) + 256 * wide(src[2 * k + 1]);
+        let unit = slices::wide32(src[2 * k]) + 256 * slices::wide32(src[2 * k + 1]);
         syms[at + k] = unit;
         h = hash::mix(h, unit);
         k += 1;
@@ -79,7 +84,7 @@ pub fn put_bytes(src: &[u8], syms: &mut [u32], p: Cursor) -> Cursor
     let mut h = p.hash;
     let mut k = 0;
     while k < src.len() {
-        let byte = 65542 + 8 * wide(src[k]);
+        let byte = BYTE_MARK + 8 * slices::wide32(src[k]);
         syms[at + k] = byte;
         h = hash::mix(h, byte);
         k += 1;
@@ -97,7 +102,7 @@ pub fn put_value(token: u8, payload: &[u8], syms: &mut [u32], p: Cursor) -> Curs
     requires { ⌜ p .at + 1 + length (now payload) ≤ length (now syms) ⌝ }
     ensures { λ r. ⌜ PutHashed (now (syms .entry)) p (mark 5 token ∷ map (mark 6) (now (payload .entry))) (now (syms .exit)) r ⌝ }
 {
-    let after = put_one(syms, p, 65541 + 8 * wide(token));
+    let after = put_one(syms, p, TOKEN_MARK + 8 * slices::wide32(token));
     put_bytes(payload, syms, after)
 }
 
@@ -120,7 +125,7 @@ pub fn put_made(
     let mut h = p.hash;
     let mut k = 0;
     while k < n {
-        let unit = widen(units::unit(alphabet, plan, payload, small, from, k));
+        let unit = unit_number(units::unit(alphabet, plan, payload, small, from, k));
         syms[at + k] = unit;
         h = hash::mix(h, unit);
         k += 1;

@@ -13,7 +13,7 @@ use Rattle.sequences.proofs.Tests.{tests, cond-if}
 use Rattle.sequences.proofs.Overlay.{length-overlay}
 use Rattle.sequences.proofs.Units.{length-bytesOf}
 use Rattle.numeral.specs.Numeral.{numeral, truth}
-use Rattle.chunks.specs.Chunks.{valueOf}
+use Rattle.chunks.specs.Chunks.{chunksValue}
 use Rattle.numeral.specs.Puts.{Ends}
 use Rattle.chunks.specs.declared.Chunks.{Chunks}
 use Rattle.hexadecimal.specs.Hexadecimal.{hex}
@@ -92,7 +92,7 @@ module _ (token : ℕ) (p : List ℕ) {plan : Plan} (m : Means (textOf token p) 
     laid-by t o l = record { answer = rw (t, o) (l .answer); holds = rw (t, o) (l .holds) }
 
     pub shows-number : {minus : Bool} {size : Chunks} {scale : ℕ} {after : List ℕ} {r : Shown} → plan ≡ Number minus size scale
-        → Lays (numeral minus (valueOf size) scale) before after r → Shows token p before after r
+        → Lays (numeral minus (chunksValue size) scale) before after r → Shows token p before after r
     shows-number e l = laid-by (told e .text-is) (told e .own-is) l
 
     pub shows-boolean : {b : Bool} {after : List ℕ} {r : Shown} → plan ≡ Boolean b → Lays (truth b) before after r → Shows token p before after r

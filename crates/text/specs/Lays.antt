@@ -1,4 +1,4 @@
--- A text laid into a lent buffer: what the functions of this crate hand to each other.
+-- Serves the code. A text laid into a lent buffer: what the functions of this crate hand to each other.
 use Prim.Native.Nat.{ℕ}
 use mathlib.Core.Path.{_≡_}
 use mathlib.Core.List.{List}

@@ -54,8 +54,8 @@ pub record Answer : Type 0 where
   pub number : ℕ
   pub count : ℕ
 
-abbrev pub answerOf : Shown → Answer
-answerOf (Own n) = record { number = accepted; count = n }
-answerOf (Made n) = record { number = accepted; count = n }
-answerOf (Short n) = record { number = noRoom; count = n }
-answerOf NoText = record { number = noText; count = 0 }
+abbrev pub textAnswer : Shown → Answer
+textAnswer (Own n) = record { number = accepted; count = n }
+textAnswer (Made n) = record { number = accepted; count = n }
+textAnswer (Short n) = record { number = noRoom; count = n }
+textAnswer NoText = record { number = noText; count = 0 }

@@ -4,7 +4,7 @@ ghost use mathlib.Core.Path.{_≡_};
 ghost use Prim.Native.Nat.{_+_, _*_, _^_, _≤_, _<_};
 ghost use lib.ListN.{length, take};
 ghost use Rattle.numeral.specs.Numeral.{numeral, truth};
-ghost use Rattle.chunks.specs.Chunks.{valueOf, Chunked};
+ghost use Rattle.chunks.specs.Chunks.{chunksValue, Chunked};
 ghost use Rattle.hexadecimal.specs.Hexadecimal.{hex};
 ghost use Rattle.base64.specs.Base64.{base64};
 ghost use Rattle.plan.specs.Text.{shown};
@@ -42,8 +42,8 @@ fn show_small(small: &[u8; 82], at: usize, buffer: &mut [u8]) -> Shown
 
 // Shows a number.
 fn show_number(minus: bool, size: Chunks, scale: usize, buffer: &mut [u8]) -> Shown
-    requires { ⌜ Chunked size × (scale ≤ 38) × (valueOf size < 10 ^ 39) ⌝ }
-    ensures { λ r. ⌜ Lays (numeral minus (valueOf size) scale) (now (buffer .entry)) (now (buffer .exit)) r ⌝ }
+    requires { ⌜ Chunked size × (scale ≤ 38) × (chunksValue size < 10 ^ 39) ⌝ }
+    ensures { λ r. ⌜ Lays (numeral minus (chunksValue size) scale) (now (buffer .entry)) (now (buffer .exit)) r ⌝ }
 {
     let mut small = [0u8; 82];
     let at = numeral::render(minus, size, scale, &mut small);

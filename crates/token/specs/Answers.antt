@@ -61,6 +61,16 @@ qnameRows = 1024
 abbrev pub eventRows : ℕ
 eventRows = 4096
 
+-- numbers of a row of each table (01, "Rows")
+abbrev pub nameWidth : ℕ
+nameWidth = 2
+
+abbrev pub qnameWidth : ℕ
+qnameWidth = 3
+
+abbrev pub eventWidth : ℕ
+eventWidth = 4
+
 -- elements open at once, counted across nesting
 abbrev pub openElements : ℕ
 openElements = 64

@@ -1,4 +1,4 @@
--- What an entry of the table stands for: the number of a class times 32, plus the number of a shape.
+-- Serves the code. What an entry of the table stands for: the number of a class times 32, plus the number of a shape.
 use Prim.Native.Nat.{ℕ, _/_, _%_, _<_}
 use mathlib.Core.Path.{_≡_}
 use mathlib.Core.List.{List, [], _∷_}

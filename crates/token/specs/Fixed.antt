@@ -1,4 +1,4 @@
--- The values whose payload has one size, told without their class and shape apart.
+-- Serves the code. The values whose payload has one size, told without their class and shape apart.
 use Prim.Native.Nat.{ℕ}
 use Rattle.token.specs.Tokens.{classOf, shapeOf}
 use Rattle.token.specs.declared.Class.{Class}

@@ -9,6 +9,13 @@ mod entries;
 
 pub use entries::table;
 
+// Numbers of each table at its full bounds.
+pub const NAME_TABLE: usize = NAME_WIDTH * NAME_ROWS;
+
+pub const QNAME_TABLE: usize = QNAME_WIDTH * QNAME_ROWS;
+
+pub const EVENT_TABLE: usize = EVENT_WIDTH * EVENT_ROWS;
+
 // The bounds of 01, "Numbers that bound the work".
 pub const LONGEST: usize = 65536;
 
@@ -31,6 +38,31 @@ pub const EVENT_WIDTH: usize = 4;
 
 // The largest multi-byte number (01, "Document rules").
 pub const LARGEST: usize = 2147483647;
+
+// The codes of the tokens that are no values, and of XSD-QNAME, by 004's names.
+pub const ENCODING_TOKEN: u8 = 0xFD;
+
+pub const ELEMENT_TOKEN: u8 = 0xF8;
+
+pub const ENDELEMENT_TOKEN: u8 = 0xF7;
+
+pub const ATTRIBUTE_TOKEN: u8 = 0xF6;
+
+pub const ENDATTRIBUTES_TOKEN: u8 = 0xF5;
+
+pub const PI_TOKEN: u8 = 0xF4;
+
+pub const CDATA_TOKEN: u8 = 0xF2;
+
+pub const NAMEDEF_TOKEN: u8 = 0xF0;
+
+pub const QNAMEDEF_TOKEN: u8 = 0xEF;
+
+pub const NEST_TOKEN: u8 = 0xEC;
+
+pub const ENDNEST_TOKEN: u8 = 0xEB;
+
+pub const XSD_QNAME: u8 = 0x8C;
 
 // 01, "Answer numbers".
 pub const ACCEPTED: u32 = 0;

@@ -8,10 +8,10 @@ use native.Mathlib.Omega.{arith}
 use native.Mathlib.Nat.{eq-or-lt-of-le}
 use lib.Dec.{ltb}
 use borrow.Author.Tests.{ltb-true, ltb-false}
-use Rattle.meaning.specs.Meaning.{same}
+use Rattle.sequences.specs.Lists.{same}
+use Rattle.sequences.proofs.Same.{same-true, differ}
 use Rattle.twins.specs.Parts.{Next}
-use Rattle.twins.specs.Search.{slotOf, Head}
-use Rattle.twins.proofs.Equal.{same-true, differ}
+use Rattle.twins.specs.Search.{partSlot, Head}
 
 pub split : (x j : ℕ) → (x < j) ⊎ (j ≤ x)
 split x j = go (ltb x j) refl
@@ -26,18 +26,18 @@ module _ (m : ℕ → List ℕ) (n i : ℕ) where
     pub after : i < j
     pub within : j ≤ n
     pub none : (x : ℕ) → i < x → x < j → m i ≡ m x → ⊥
-    pub in-slot : j < n → slotOf (m i) ≡ slotOf (m j)
+    pub in-slot : j < n → partSlot (m i) ≡ partSlot (m j)
 
-  pub walk-first : (b j : ℕ) → b ≡ slotOf (m i) → Head (λ x. slotOf (m x)) n b (i + 1) j → Walk j
+  pub walk-first : (b j : ℕ) → b ≡ partSlot (m i) → Head (λ x. partSlot (m x)) n b (i + 1) j → Walk j
   walk-first b j e h =
       record {
         after = omega (arith, h .from);
         within = h .within;
-        none = λ x l k q. h .none x (omega arith) k (sym (ap slotOf q) ∙ sym e);
+        none = λ x l k q. h .none x (omega arith) k (sym (ap partSlot q) ∙ sym e);
         in-slot = λ l. sym e ∙ sym (h .hits l);
       }
 
-  pub walk-on : (j k : ℕ) (r : Bool) → Walk j → j < n → r ≡ same (m i) (m j) → r ≡ false → Next (λ x. slotOf (m x)) n j k → Walk k
+  pub walk-on : (j k : ℕ) (r : Bool) → Walk j → j < n → r ≡ same (m i) (m j) → r ≡ false → Next (λ x. partSlot (m x)) n j k → Walk k
   walk-on j k r w l e y c =
       record {
         after = omega (arith, w .after, c .after);
@@ -49,7 +49,7 @@ module _ (m : ℕ → List ℕ) (n i : ℕ) where
       from : (x : ℕ) → x < k → j ≤ x → m i ≡ m x → ⊥
       from x b f q = ⊎-elim
           (λ (z : j ≡ x). differ (m i) (m j) (sym e ∙ y) (q ∙ sym (ap m z)))
-          (λ (g : j < x). c .none x g b (sym (w .in-slot l) ∙ ap slotOf q))
+          (λ (g : j < x). c .none x g b (sym (w .in-slot l) ∙ ap partSlot q))
           (eq-or-lt-of-le f)
 
   pub walk-hit : (j : ℕ) (r : Bool) → Walk j → r ≡ same (m i) (m j) → r ≡ true → Next m n i j

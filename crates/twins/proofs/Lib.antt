@@ -1,7 +1,7 @@
-pub mod Equal
 pub mod Ends
 pub mod Twins
 pub mod Chain
 pub mod State
 pub mod Links
 pub mod Run
+pub mod Examples

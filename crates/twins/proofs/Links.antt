@@ -5,7 +5,7 @@ use mathlib.Core.List.{List, []}
 use native.Mathlib.Omega.{arith}
 use native.Mathlib.Nat.{zero-add, sub-zero}
 use lib.ListN.{length, getD}
-use Rattle.meaning.specs.Meaning.{same}
+use Rattle.sequences.specs.Lists.{same}
 use Rattle.meaning.specs.Pairs.{pairsOf}
 use Rattle.twins.specs.Parts.{partAt, partsOf, Next, Linked}
 use Rattle.twins.specs.Search.{Nexts, pairsAfter}

@@ -5,9 +5,8 @@ use mathlib.Core.List.{List, [], _∷_, _++_, map, map-append, append-assoc, app
 use native.Mathlib.Omega.{arith}
 use lib.ListN.{length, set, length-append, length-map}
 use lib.Seq.{sets, length-sets}
-use Rattle.sequences.specs.Lists.{overlay}
+use Rattle.sequences.specs.Lists.{overlay, same}
 use Rattle.sequences.proofs.Overlay.{sets-append, overlay-sets}
-use Rattle.meaning.specs.Meaning.{same}
 use Rattle.meaning.specs.Pairs.{Pair, pair, pairsOf, flatPairs}
 use Rattle.twins.specs.Parts.{partAt, partsOf, Next}
 use Rattle.twins.specs.Search.{twinsOf, pairsAfter}

@@ -10,11 +10,11 @@ use lib.Dec.{eqb, leb}
 use borrow.Author.Tests.{eqb-true, eqb-false, le-leb, lt-leb}
 use lib.ListN.{length, getD, set, length-set, length-append, length-map}
 use lib.Seq.{getD-set-same, getD-set-other}
+use Rattle.sequences.specs.Lists.{same}
 use Rattle.hash.specs.Hash.{hashOf}
-use Rattle.meaning.specs.Meaning.{same}
 use Rattle.meaning.specs.Pairs.{pair, pairsOf}
 use Rattle.twins.specs.Parts.{partAt, partsOf, Next, Linked}
-use Rattle.twins.specs.Search.{slotOf, Head, Chained, Nexts, twinsOf, pairsAfter}
+use Rattle.twins.specs.Search.{partSlot, Head, PartsChained, Nexts, twinsOf, pairsAfter}
 use Rattle.twins.proofs.Chain.{split}
 use Rattle.twins.proofs.Links.{linked-of, pairs-all}
 use Rattle.twins.proofs.Twins.{twins-next, twins-end, twins-few, pairs-step, pairs-none}
@@ -44,8 +44,8 @@ pub record State (m : ℕ → List ℕ) (n i : ℕ) (next slots chain later : Li
   pub chain-long : length chain ≡ 2048
   pub later-long : length later ≡ 2048
   pub nexts : Nexts m n i next
-  pub heads : (b : ℕ) → b < 4096 → Head (λ x. slotOf (m x)) n b i (getD slots b 0)
-  pub chained : Chained m n i chain
+  pub heads : (b : ℕ) → b < 4096 → Head (λ x. partSlot (m x)) n b i (getD slots b 0)
+  pub chained : PartsChained m n i chain
   pub laters : (k : ℕ) → i ≤ k → k < n → getD later k 0 ≡ length (twinsOf m n k)
   pub sum : pairs ≡ length (pairsAfter m n i)
   pub bound : pairs ≤ 2048 * (n - i)
@@ -74,8 +74,8 @@ module _ (m : ℕ → List ℕ) (n : ℕ) where
       omega arith
 
   head-more : (slots : List ℕ) (i : ℕ) → length slots ≡ 4096 → i < n
-      → ((b : ℕ) → b < 4096 → Head (λ x. slotOf (m x)) n b (i + 1) (getD slots b 0)) → (s : ℕ) → s ≡ slotOf (m i)
-      → (b : ℕ) → b < 4096 → Head (λ x. slotOf (m x)) n b i (getD (set slots s i) b 0)
+      → ((b : ℕ) → b < 4096 → Head (λ x. partSlot (m x)) n b (i + 1) (getD slots b 0)) → (s : ℕ) → s ≡ partSlot (m i)
+      → (b : ℕ) → b < 4096 → Head (λ x. partSlot (m x)) n b i (getD (set slots s i) b 0)
   head-more slots i l h f s e b c = ⊎-elim
       (λ (q : b ≡ s). let g : s < length slots = omega arith in
       rw (q, getD-set-same slots s i 0 g)
@@ -85,7 +85,7 @@ module _ (m : ℕ → List ℕ) (n : ℕ) where
         from = omega (arith, f b c .from);
         within = f b c .within;
         none = λ x a d w. ⊎-elim
-            (λ (z : i ≡ x). q (sym w ∙ sym (ap (λ (y : ℕ). slotOf (m y)) z) ∙ sym e))
+            (λ (z : i ≡ x). q (sym w ∙ sym (ap (λ (y : ℕ). partSlot (m y)) z) ∙ sym e))
             (λ (z : i < x). f b c .none x (omega arith) d w)
             (eq-or-lt-of-le a);
         hits = f b c .hits;
@@ -95,7 +95,7 @@ module _ (m : ℕ → List ℕ) (n : ℕ) where
       empty : (x : ℕ) → i ≤ x → x < i → ⊥
       empty x a d = omega arith
 
-  link-more : (i j b : ℕ) → b ≡ slotOf (m i) → Head (λ x. slotOf (m x)) n b (i + 1) j → Next (λ x. slotOf (m x)) n i j
+  link-more : (i j b : ℕ) → b ≡ partSlot (m i) → Head (λ x. partSlot (m x)) n b (i + 1) j → Next (λ x. partSlot (m x)) n i j
   link-more i j b e h =
       record {
         after = omega (arith, h .from);
@@ -110,7 +110,7 @@ module _ (m : ℕ → List ℕ) (n : ℕ) where
       → Next m n i j → l ≡ cond (leb n j) 0 (getD later j 0 + 1)
       → State m n i (set next i j) (set slots s i) (set chain i (getD slots s 0)) (set later i l) (pairs + l)
   turned i next slots chain later pairs few lt st h s j l eh es nx el =
-      let w : s ≡ slotOf (m i) = es ∙ ap (λ (x : ℕ). x % 4096) eh in
+      let w : s ≡ partSlot (m i) = es ∙ ap (λ (x : ℕ). x % 4096) eh in
       let sb : s < 4096 = omega arith in
       let c : l ≡ length (twinsOf m n i) =
       count-is i j (getD later j 0) l nx (λ q. st .laters j (omega (arith, nx .after)) q) el in
@@ -124,7 +124,7 @@ module _ (m : ℕ → List ℕ) (n : ℕ) where
         nexts = extend (λ k v. Next m n k v) next n i j (omega (arith, st .next-long)) (st .nexts) nx;
         heads = head-more slots i (st .slots-long) lt (st .heads) s w;
         chained = record {
-          linked = extend (λ k v. Next (λ x. slotOf (m x)) n k v) chain n i _ (omega (arith, st .chain-long)) (st .chained .linked)
+          linked = extend (λ k v. Next (λ x. partSlot (m x)) n k v) chain n i _ (omega (arith, st .chain-long)) (st .chained .linked)
               (link-more i _ s w (st .heads s sb));
         };
         laters = extend (λ k v. v ≡ length (twinsOf m n k)) later n i l (omega (arith, st .later-long)) (st .laters) c;

@@ -6,11 +6,11 @@ use mathlib.Core.Bool.{Bool, true, false, cond}
 use native.Mathlib.Omega.{arith}
 use native.Mathlib.Nat.{add-zero}
 use lib.ListN.{length, getD}
-use Rattle.meaning.specs.Meaning.{same}
+use Rattle.sequences.specs.Lists.{same}
+use Rattle.sequences.proofs.Same.{not-same, same-list}
 use Rattle.meaning.specs.Pairs.{Pair, pair, equalTo, pairsFrom, flatPairs}
 use Rattle.twins.specs.Parts.{values, Next}
 use Rattle.twins.specs.Search.{twinsOf, pairsAfter}
-use Rattle.twins.proofs.Equal.{same-of, not-same}
 
 pub length-values : {A : Type 0} (m : ℕ → A) (f k : ℕ) → length (values m f k) ≡ f
 unfolding values
@@ -88,7 +88,7 @@ module _ (m : ℕ → List ℕ) (n i j : ℕ) (x : Next m n i j) where
   pub twins-next : j < n → twinsOf m n i ≡ j ∷ twinsOf m n j
   twins-next h =
       let e : m i ≡ m j = x .twin h in
-      skipped ∙ places-step m n (m i) j h ∙ rw (same-of (m i) (m j) e) (rw e)
+      skipped ∙ places-step m n (m i) j h ∙ rw (same-list (m i) (m j) .1 e) (rw e)
 
   pub twins-end : n ≤ j → twinsOf m n i ≡ []
   twins-end h = skipped ∙ places-none m n (m i) j h

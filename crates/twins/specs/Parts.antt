@@ -1,4 +1,4 @@
--- The parts of one array of numbers, and for each the next that is equal.
+-- Serves the code. The parts of one array of numbers, and for each the next that is equal.
 use Prim.Native.Nat.{ℕ, zero, suc, _+_, _-_, _≤_, _<_}
 use mathlib.Core.Path.{_≡_}
 use mathlib.Core.List.{List, [], _∷_}

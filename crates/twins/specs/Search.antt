@@ -1,11 +1,11 @@
--- What the search for equal parts is lent and keeps: the hash of each part, the slots and chains of parts with equal slots,
--- and the equal parts after each part.
+-- Serves the code. What the search for equal parts is lent and keeps: the hash of each part, the slots and chains of parts with
+-- equal slots, and the equal parts after each part.
 use Prim.Native.Nat.{ℕ, suc, _+_, _-_, _%_, _≤_, _<_}
 use mathlib.Core.Path.{_≡_}
 use mathlib.Core.List.{List}
 use lib.ListN.{getD}
+use Rattle.sequences.specs.Lists.{same}
 use Rattle.hash.specs.Hash.{hashOf}
-use Rattle.meaning.specs.Meaning.{same}
 use Rattle.meaning.specs.Pairs.{Pair, equalTo, pairsFrom}
 use Rattle.twins.specs.Parts.{values, Next}
 
@@ -13,8 +13,8 @@ use Rattle.twins.specs.Parts.{values, Next}
 abbrev pub HashesOf : (ℕ → List ℕ) → ℕ → List ℕ → Type 0
 HashesOf m n hashes = (k : ℕ) → k < n → getD hashes (k + 1) 0 ≡ hashOf (m k)
 
-abbrev pub slotOf : List ℕ → ℕ
-slotOf l = hashOf l % 4096
+abbrev pub partSlot : List ℕ → ℕ
+partSlot l = hashOf l % 4096
 
 -- j is the first from i on, below n, at which s is b; or n
 pub record Head (s : ℕ → ℕ) (n b i j : ℕ) : Type 0 where
@@ -24,8 +24,8 @@ pub record Head (s : ℕ → ℕ) (n b i j : ℕ) : Type 0 where
   pub hits : j < n → s j ≡ b
 
 -- for each part from i on the next in its slot
-pub record Chained (m : ℕ → List ℕ) (n i : ℕ) (chain : List ℕ) : Type 0 where
-  pub linked : (k : ℕ) → i ≤ k → k < n → Next (λ x. slotOf (m x)) n k (getD chain k 0)
+pub record PartsChained (m : ℕ → List ℕ) (n i : ℕ) (chain : List ℕ) : Type 0 where
+  pub linked : (k : ℕ) → i ≤ k → k < n → Next (λ x. partSlot (m x)) n k (getD chain k 0)
 
 -- for each part from i on the next that is equal
 abbrev pub Nexts : (ℕ → List ℕ) → ℕ → ℕ → List ℕ → Type 0

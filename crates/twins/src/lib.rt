@@ -9,29 +9,20 @@ ghost use Prim.Native.Nat.{_+_, _*_, _%_, _<_, _≤_};
 ghost use lib.ListN.{length, getD};
 ghost use lib.Seq.{sets};
 ghost use lib.Dec.{leb};
-ghost use Rattle.sequences.specs.Lists.{overlay};
+ghost use Rattle.sequences.specs.Lists.{overlay, same};
 ghost use Rattle.hash.specs.Hash.{hashOf};
-ghost use Rattle.meaning.specs.Meaning.{same};
 ghost use Rattle.meaning.specs.Pairs.{pair, pairsOf, flatPairs};
 ghost use Rattle.twins.specs.Parts.{partAt, partsOf, Cut, Next, Linked};
-ghost use Rattle.twins.specs.Search.{HashesOf, slotOf, Head, Chained, Nexts, twinsOf};
+ghost use Rattle.twins.specs.Search.{HashesOf, partSlot, Head, PartsChained, Nexts, twinsOf};
 
-// With an early exit, though the loop is then not vectorised: short parts are the common case.
-fn same_syms(a: &[u32], b: &[u32]) -> bool
-    ensures { λ r. ⌜ r ≡ same (now (a .entry)) (now (b .entry)) ⌝ }
-{
-    if a.len() != b.len() {
-        return false;
-    }
-    let mut i = 0;
-    while i < a.len() {
-        if a[i] != b[i] {
-            return false;
-        }
-        i += 1;
-    }
-    true
-}
+// Parts of one array, at most; places where one begins or the last one ends; slots of the hash table.
+pub const PARTS: usize = 2048;
+
+pub const BOUNDS: usize = 2049;
+
+const SLOTS: usize = 4096;
+
+const MODULUS: u64 = SLOTS as u64;
 
 // Part k of n.
 fn part<'a>(syms: &'a [u32], starts: &[usize], k: usize, n: usize) -> &'a [u32]
@@ -47,7 +38,7 @@ fn part<'a>(syms: &'a [u32], starts: &[usize], k: usize, n: usize) -> &'a [u32]
 fn is_twin(
     syms: &[u32],
     starts: &[usize],
-    hashes: &[u64; 2049],
+    hashes: &[u64; BOUNDS],
     i: usize,
     j: usize,
     n: usize,
@@ -61,15 +52,15 @@ fn is_twin(
     if hashes[j + 1] != h {
         return false;
     }
-    same_syms(part(syms, starts, i, n), part(syms, starts, j, n))
+    slices::same_numbers(part(syms, starts, i, n), part(syms, starts, j, n))
 }
 
 // The next part equal to part i, along the chain of its slot.
 fn find(
     syms: &[u32],
     starts: &[usize],
-    hashes: &[u64; 2049],
-    chain: &[u16; 2048],
+    hashes: &[u64; BOUNDS],
+    chain: &[u16; PARTS],
     first: usize,
     i: usize,
     n: usize,
@@ -77,9 +68,9 @@ fn find(
 ) -> usize
     requires { ⌜ (n ≤ 2048) × Cut (now syms) (now starts) n × (i < n)
         × HashesOf (partAt (now syms) (now starts)) n (now hashes)
-        × Chained (partAt (now syms) (now starts)) n (i + 1) (now chain)
+        × PartsChained (partAt (now syms) (now starts)) n (i + 1) (now chain)
         × (h ≡ hashOf (partAt (now syms) (now starts) i))
-        × Head (λ x. slotOf (partAt (now syms) (now starts) x)) n (h % 4096) (i + 1) first ⌝ }
+        × Head (λ x. partSlot (partAt (now syms) (now starts) x)) n (h % 4096) (i + 1) first ⌝ }
     ensures { λ r. ⌜ Next (partAt (now (syms .entry)) (now (starts .entry))) n i r ⌝ }
 {
     let mut j = first;
@@ -93,7 +84,7 @@ fn find(
 }
 
 // How many equal parts come after one whose next is j.
-fn after(later: &[u16; 2048], j: usize, n: usize) -> usize
+fn after(later: &[u16; PARTS], j: usize, n: usize) -> usize
     requires { ⌜ (n ≤ 2048) × (j < n → getD (now later) j 0 ≤ 2048) ⌝ }
     ensures { λ r. ⌜ r ≡ cond (leb n j) 0 (getD (now (later .entry)) j 0 + 1) ⌝ }
 {
@@ -108,9 +99,9 @@ fn after(later: &[u16; 2048], j: usize, n: usize) -> usize
 pub fn link(
     syms: &[u32],
     starts: &[usize],
-    hashes: &[u64; 2049],
+    hashes: &[u64; BOUNDS],
     n: usize,
-    next: &mut [usize; 2048],
+    next: &mut [usize; PARTS],
 ) -> usize
     requires { ⌜ (n ≤ 2048) × Cut (now syms) (now starts) n × (length (now next) ≡ 2048)
         × HashesOf (partAt (now syms) (now starts)) n (now hashes) ⌝ }
@@ -119,17 +110,17 @@ pub fn link(
         × (length (now (next .exit)) ≡ 2048) ⌝ }
 {
     // Places and counts are at most 2048: as u16 there are fewer bytes to clear.
-    let mut slots = [n as u16; 4096];
+    let mut slots = [n as u16; SLOTS];
     // Both arrays are written before they are read. A first value whose bytes differ is stored by vector instructions, and
     // not by a call of memset.
-    let mut chain = [1u16; 2048];
-    let mut later = [1u16; 2048];
+    let mut chain = [1u16; PARTS];
+    let mut later = [1u16; PARTS];
     let mut pairs: usize = 0;
     let mut i = n;
     while 0 < i {
         i -= 1;
         let h = hashes[i + 1];
-        let s = (h % 4096) as usize;
+        let s = (h % MODULUS) as usize;
         let first = slots[s] as usize;
         let j = find(syms, starts, hashes, &chain, first, i, n, h);
         next[i] = j;
@@ -147,7 +138,7 @@ fn write_run(
     syms: &[u32],
     starts: &[usize],
     n: usize,
-    next: &[usize; 2048],
+    next: &[usize; PARTS],
     i: usize,
     pairs: &mut [u32],
     at: usize,
@@ -173,7 +164,7 @@ pub fn write_pairs(
     syms: &[u32],
     starts: &[usize],
     n: usize,
-    next: &[usize; 2048],
+    next: &[usize; PARTS],
     pairs: &mut [u32],
 )
     requires { ⌜ (n ≤ 2048) × (length (now next) ≡ 2048) × Linked (partsOf (now syms) (now starts) n) (now next)

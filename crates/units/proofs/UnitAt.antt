@@ -1,8 +1,7 @@
--- A text read unit by unit: each way out of `load`, `units` and `unit`, and what a plan says of a text that is known. Assumes nothing.
+-- A text read unit by unit: each way out of `load`, `units` and `unit`. Assumes nothing.
 use Prim.Native.Nat.{ℕ, zero, suc, _+_, _-_, _*_, _/_, _≤_, _<_}
 use mathlib.Core.Path.{_≡_, refl, sym, _∙_, subst}
 use mathlib.Core.Bool.{Bool}
-use mathlib.Core.Option.{Option, none, some}
 use mathlib.Core.List.{List, [], _∷_}
 use native.Mathlib.Omega.{arith}
 use lib.ListN.{length, getD}
@@ -10,7 +9,7 @@ use lib.Seq.{getD-drop}
 use Rattle.sequences.specs.Lists.{bytesOf, unitsOf}
 use Rattle.token.specs.Answers.{longest}
 use Rattle.numeral.specs.Numeral.{numeral, truth}
-use Rattle.chunks.specs.Chunks.{valueOf}
+use Rattle.chunks.specs.Chunks.{chunksValue}
 use Rattle.numeral.specs.Puts.{Ends}
 use Rattle.chunks.specs.declared.Chunks.{Chunks}
 use Rattle.hexadecimal.specs.Hexadecimal.{hex}
@@ -19,40 +18,13 @@ use Rattle.hexadecimal.proofs.Hex.{length-hex}
 use Rattle.base64.proofs.Base64.{length-base64}
 use Rattle.plan.specs.declared.Plan.{Plan}
 use Rattle.plan.specs.declared.Plan.the-variants.{Nothing, Payload, Number, Boolean, HexDigits, Base64Letters}
-use Rattle.plan.specs.Plans.{unitsBy, textBy, NumberFits, PayloadFits, Means}
-use Rattle.units.specs.Units.{Begins, Stands, Loaded}
-use Rattle.plan.proofs.Rules.{never}
-
--- ---- a plan and the text
-
--- the units of a plan are those of the text
-pub plan-units : {text : Option (List ℕ)} {own : Bool} {p units : List ℕ} {plan : Plan} → Means text own p plan → text ≡ some units → unitsBy plan p ≡ units
-plan-units {p = p} {units = units} {plan = plan} m e = go plan (sym (m .text-is) ∙ e)
-  where
-    go : (plan : Plan) → textBy plan p ≡ some units → unitsBy plan p ≡ units
-    go Nothing f = never (cc)
-    go Payload f = cc
-    go (Number minus size scale) f = cc
-    go (Boolean b) f = cc
-    go HexDigits f = cc
-    go Base64Letters f = cc
-
--- a value without text has the plan `Nothing`
-pub plan-nothing : {own : Bool} {p : List ℕ} {plan : Plan} → Means none own p plan → plan ≡ Nothing
-plan-nothing {p = p} {plan = plan} m = go plan (m .text-is)
-  where
-    go : (plan : Plan) → none ≡ textBy plan p → plan ≡ Nothing
-    go Nothing f = refl
-    go Payload f = never (cc)
-    go (Number minus size scale) f = never (cc)
-    go (Boolean b) f = never (cc)
-    go HexDigits f = never (cc)
-    go Base64Letters f = never (cc)
+use Rattle.plan.specs.Plans.{unitsBy, NumberFits, PayloadFits}
+use Rattle.units.specs.Units.{UnitsBegin, Stands, Loaded}
 
 -- ---- load
 
 -- a plan whose text is not a number's and not a truth value's needs nothing in the 82 bytes
-idle : (plan : Plan) (small : List ℕ) → Stands plan small 41 → Begins plan 41 → length small ≡ 82 → Loaded plan small 41
+idle : (plan : Plan) (small : List ℕ) → Stands plan small 41 → UnitsBegin plan 41 → length small ≡ 82 → Loaded plan small 41
 idle plan small s b l = record { stands = s; begins = b; inside = let q : 41 ≤ 41 = omega arith in q; long = l }
 
 module _ (small : List ℕ) {plan : Plan} (l : length small ≡ 82) where
@@ -73,7 +45,7 @@ pub number-on : {plan : Plan} {minus : Bool} {size : Chunks} {scale : ℕ} → p
 number-on e f = subst NumberFits e f
 
 pub loads-number : {plan : Plan} {minus : Bool} {size : Chunks} {scale at : ℕ} {small : List ℕ} → plan ≡ Number minus size scale
-    → Ends small (numeral minus (valueOf size) scale) at → Loaded plan small at
+    → Ends small (numeral minus (chunksValue size) scale) at → Loaded plan small at
 loads-number {at = at} {small = small} e s =
     let n = s .place in
     subst (λ (q : Plan). Loaded q small at) (sym e) (record { stands = s; begins = n; inside = omega arith; long = s .long })
@@ -94,15 +66,15 @@ module _ (p : List ℕ) {plan : Plan} where
       subst (λ (q : Plan). PayloadFits q p → length p / 2 ≡ length (unitsBy q p)) (sym e)
       (λ (f : length p ≡ 2 * length (unitsOf p)). let q : length p / 2 ≡ length (unitsOf p) = omega arith in q)
 
-  pub units-number : {minus : Bool} {size : Chunks} {scale : ℕ} (at : ℕ) → plan ≡ Number minus size scale → Begins plan at
+  pub units-number : {minus : Bool} {size : Chunks} {scale : ℕ} (at : ℕ) → plan ≡ Number minus size scale → UnitsBegin plan at
       → 41 - at ≡ length (unitsBy plan p)
   units-number {minus} {size} {scale} at e =
-      subst (λ (q : Plan). Begins q at → 41 - at ≡ length (unitsBy q p)) (sym e)
-      (λ (f : at + length (numeral minus (valueOf size) scale) ≡ 41). let q : 41 - at ≡ length (numeral minus (valueOf size) scale) = omega arith in q)
+      subst (λ (q : Plan). UnitsBegin q at → 41 - at ≡ length (unitsBy q p)) (sym e)
+      (λ (f : at + length (numeral minus (chunksValue size) scale) ≡ 41). let q : 41 - at ≡ length (numeral minus (chunksValue size) scale) = omega arith in q)
 
-  pub units-boolean : {b : Bool} (at : ℕ) → plan ≡ Boolean b → Begins plan at → 41 - at ≡ length (unitsBy plan p)
+  pub units-boolean : {b : Bool} (at : ℕ) → plan ≡ Boolean b → UnitsBegin plan at → 41 - at ≡ length (unitsBy plan p)
   units-boolean {b} at e =
-      subst (λ (q : Plan). Begins q at → 41 - at ≡ length (unitsBy q p)) (sym e)
+      subst (λ (q : Plan). UnitsBegin q at → 41 - at ≡ length (unitsBy q p)) (sym e)
       (λ (f : at + length (truth b) ≡ 41). let q : 41 - at ≡ length (truth b) = omega arith in q)
 
   pub units-hex : plan ≡ HexDigits → 2 * length p ≡ length (unitsBy plan p)

@@ -5,7 +5,7 @@ ghost use lib.ListN.{length, getD};
 ghost use Rattle.numeral.specs.Numeral.{numeral};
 ghost use Rattle.base64.specs.Base64.{base64, Alphabet};
 ghost use Rattle.plan.specs.Plans.{unitsBy, NumberFits, PayloadFits};
-ghost use Rattle.units.specs.Units.{Begins, Loaded};
+ghost use Rattle.units.specs.Units.{UnitsBegin, Loaded};
 use plan::Plan;
 
 // ---- a text unit by unit
@@ -27,7 +27,7 @@ pub fn load(plan: Plan, small: &mut [u8; 82]) -> usize
 
 // How many units the text has; `at` is what `load` gave.
 pub fn units(plan: Plan, payload: &[u8], at: usize) -> usize
-    requires { ⌜ PayloadFits plan (now payload) × Begins plan at × (at ≤ 41) ⌝ }
+    requires { ⌜ PayloadFits plan (now payload) × UnitsBegin plan at × (at ≤ 41) ⌝ }
     ensures { λ r. ⌜ r ≡ length (unitsBy plan (now (payload .entry))) ⌝ }
 {
     match plan {
@@ -44,20 +44,13 @@ pub fn units(plan: Plan, payload: &[u8], at: usize) -> usize
     }
 }
 
-// A byte as a number of 16 bits.
-fn wide(b: u8) -> u16
-    ensures { λ r. ⌜ (r ≡ b) × (r < 256) ⌝ }
-{
-    b as u16
-}
-
 // The unit of two bytes, the low one first.
 fn unit_of(p: &[u8], at: usize) -> u16
     requires { ⌜ at + 1 < length (now p) ⌝ }
     ensures { λ r. ⌜ r ≡ getD (now (p .entry)) at 0 + 256 * getD (now (p .entry)) (at + 1) 0 ⌝ }
 {
-    let low = wide(p[at]);
-    let high = wide(p[at + 1]);
+    let low = slices::wide16(p[at]);
+    let high = slices::wide16(p[at + 1]);
     low + 256 * high
 }
 

@@ -14,14 +14,16 @@ use Rattle.token.specs.Answers.{missing, badValue, largest}
 use Rattle.token.specs.Tokens.{shapeOf}
 use Rattle.token.specs.declared.Shape.{Shape}
 use Rattle.token.specs.declared.Shape.the-variants.{Nothing, Fixed, Text, Blob, CodePage, Decimal, Qname, Stamp, Date, Time, ZonedTime}
-use Rattle.number.specs.Number.{numberAt, Within}
+use Rattle.number.specs.Number.{numberAt}
+use Rattle.number.specs.Bounds.{Within}
 use Rattle.number.specs.declared.Number.{Number}
 use Rattle.number.specs.declared.Number.the-variants as number
 use Rattle.number.proofs.Within.{number-within}
 use Rattle.rules.specs.Rules.{decimalSize, timeBytes, lawful}
 use Rattle.value.specs.declared.Text as declared
 use Rattle.value.specs.declared.Text.the-variants as text
-use Rattle.value.specs.Fields.{needed, textAfter, textAt, textPayload, Lies, Halved, blobAfter, decimalAfter, timeField, qnameAfter, extentAt, ruled, fieldAt, Inside}
+use Rattle.value.specs.Fields.{needed, textAfter, textAt, textPayload, blobAfter, decimalAfter, timeField, qnamePayload, extentAt, ruled, fieldAt}
+use Rattle.value.specs.Bounds.{Lies, Halved, Inside}
 use Rattle.value.specs.declared.Field.{Field}
 use Rattle.value.specs.declared.Field.the-variants.{Payload, Reference, Refused}
 
@@ -50,8 +52,8 @@ module _ (doc : List ℕ) (at : ℕ) {r n : Number} (most : ℕ) (place : ℕ) (
   pub decimal-on : decimalAfter doc at n ≡ decimalAfter doc at (numberAt most doc place)
   decimal-on = ap (decimalAfter doc at) (sym g ∙ e)
 
-  pub qname-on : qnameAfter n ≡ qnameAfter (numberAt most doc place)
-  qname-on = ap qnameAfter (sym g ∙ e)
+  pub qname-on : qnamePayload n ≡ qnamePayload (numberAt most doc place)
+  qname-on = ap qnamePayload (sym g ∙ e)
 
 -- a text's units, there or not
 pub text-there : (doc : List ℕ) (units next : ℕ) → next + 2 * units ≤ length doc → text.Is next units ≡ textAfter doc (number.Is units next)
@@ -124,7 +126,7 @@ decimal-inside doc at (number.Is size next) h =
     cond-if (Inside (length doc) at) (decimalSize size) _ _ (λ t. needed-inside doc next size at (omega arith)) (λ t. tt)
 decimal-inside doc at (number.Refused number place) h = tt
 
-qname-inside : (size at : ℕ) (n : Number) → Within size (at + 1) n → Inside size at (qnameAfter n)
+qname-inside : (size at : ℕ) (n : Number) → Within size (at + 1) n → Inside size at (qnamePayload n)
 qname-inside size at (number.Is value next) h = omega arith
 qname-inside size at (number.Refused number place) h = tt
 

@@ -1,11 +1,11 @@
 -- Where a token's payload lies in a document, and what refuses it: 01, "Document rules", "Answer numbers" and "Rows".
-use Prim.Native.Nat.{ℕ, _+_, _*_, _≤_, _<_}
+use Prim.Native.Nat.{ℕ, _+_, _*_}
 use mathlib.Core.Bool.{cond}
 use mathlib.Core.List.{List}
 use lib.Dec.{ltb, leb}
 use lib.ListN.{length, getD}
 use Rattle.sequences.specs.Lists.{part}
-use Rattle.token.specs.Answers.{missing, badValue, largest}
+use Rattle.token.specs.Answers.{missing, badValue}
 use Rattle.token.specs.declared.Shape.{Shape}
 use Rattle.token.specs.declared.Shape.the-variants.{Nothing, Fixed, Text, Blob, CodePage, Decimal, Qname, Stamp, Date, Time, ZonedTime}
 use Rattle.number.specs.Number.{numberAt}
@@ -52,9 +52,9 @@ timeField doc at more =
     (cond (leb (getD doc (at + 1) 0) 7) (needed doc (at + 1) (1 + timeBytes (getD doc (at + 1) 0) + more)) (Refused badValue at))
     (Refused missing (length doc))
 
-abbrev pub qnameAfter : Number → Field
-qnameAfter (number.Is value next) = Reference (record { 0 = value }) next
-qnameAfter (number.Refused number place) = Refused number place
+abbrev pub qnamePayload : Number → Field
+qnamePayload (number.Is value next) = Reference (record { 0 = value }) next
+qnamePayload (number.Refused number place) = Refused number place
 
 -- the payload of the token at a place, before the rules on its bytes
 unfoldable pub extentAt : Shape → List ℕ → ℕ → Field
@@ -64,7 +64,7 @@ extentAt (Text most) doc at = textPayload (textAt most doc (at + 1))
 extentAt (Blob most) doc at = blobAfter doc (numberAt most doc (at + 1))
 extentAt (CodePage most) doc at = blobAfter doc (numberAt most doc (at + 1))
 extentAt Decimal doc at = decimalAfter doc at (numberAt 5 doc (at + 1))
-extentAt Qname doc at = qnameAfter (numberAt 5 doc (at + 1))
+extentAt Qname doc at = qnamePayload (numberAt 5 doc (at + 1))
 extentAt (Stamp low) doc at = needed doc (at + 1) 8
 extentAt (Date first last) doc at = needed doc (at + 1) 3
 extentAt (Time first last) doc at = timeField doc at 3
@@ -79,17 +79,3 @@ ruled shape doc at (Refused number place) = Refused number place
 -- what the token at a place carries: its payload's place and size, or a qname's number and the place after it, or the refusal
 unfoldable pub fieldAt : Shape → List ℕ → ℕ → Field
 fieldAt shape doc at = ruled shape doc at (extentAt shape doc at)
-
--- bounds that a caller needs
-abbrev pub Halved : declared.Text → Type 0
-Halved (text.Is place units) = units ≤ largest
-Halved (text.Refused number place) = Unit
-
-abbrev pub Lies : ℕ → ℕ → declared.Text → Type 0
-Lies size at (text.Is place units) = (at < place) × (place + 2 * units ≤ size) × (units ≤ largest)
-Lies size at (text.Refused number place) = Unit
-
-abbrev pub Inside : ℕ → ℕ → Field → Type 0
-Inside size at (Payload place n) = (at < place) × (place + n ≤ size)
-Inside size at (Reference number next) = (at < next) × (next ≤ size) × (number .0 ≤ largest)
-Inside size at (Refused number place) = Unit

@@ -4,7 +4,8 @@ ghost use mathlib.Core.Path.{_≡_};
 ghost use Prim.Native.Nat.{_+_, _≤_, _<_};
 ghost use lib.ListN.{length};
 ghost use Rattle.number.specs.Number.{numberAt};
-ghost use Rattle.value.specs.Fields.{needed, textAt, textPayload, Halved, Lies, blobAfter, decimalAfter, timeField, qnameAfter, extentAt, fieldAt, Inside};
+ghost use Rattle.value.specs.Fields.{needed, textAt, textPayload, blobAfter, decimalAfter, timeField, qnamePayload, extentAt, fieldAt};
+ghost use Rattle.value.specs.Bounds.{Halved, Lies, Inside};
 use number::Number;
 use token::QnameNumber;
 use token::Shape;
@@ -127,7 +128,7 @@ fn time_at(doc: &[u8], at: usize, more: usize) -> Field
 }
 
 fn qname_at(doc: &[u8], at: usize) -> Field
-    ensures { λ r. ⌜ r ≡ qnameAfter (numberAt 5 (now (doc .entry)) at) ⌝ }
+    ensures { λ r. ⌜ r ≡ qnamePayload (numberAt 5 (now (doc .entry)) at) ⌝ }
 {
     match number::read(doc, at, 5) {
         Number::Refused { number, place } => Field::Refused { number, place },

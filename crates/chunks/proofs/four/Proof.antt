@@ -10,8 +10,8 @@ returns c =
     let second = third .before .before in
     let first = second .before .before in
     let start = first .before .before .before in
-    four-bytes (start .args .p .now) (start .args .at) (first .wide .ensures) (second .wide2 .ensures) (third .wide3 .ensures)
-    (c .wide4 .ensures) (start .pre)
+    four-bytes (start .args .p .now) (start .args .at) (first .wide64 .ensures) (second .wide642 .ensures) (third .wide643 .ensures)
+    (c .wide644 .ensures) (start .pre)
 
 pub four-spec : {M : Type 1} → statement M
 four-spec =

@@ -7,7 +7,7 @@ use Rattle.chunks.proofs.two.Tie as tie
 returns : tie.Need-returns
 returns c =
     let start = c .before .before .before .before .before in
-    two-bytes (start .args .p .now) (start .args .at) (c .before .before .wide .ensures) (c .wide2 .ensures) (start .pre)
+    two-bytes (start .args .p .now) (start .args .at) (c .before .before .wide64 .ensures) (c .wide642 .ensures) (start .pre)
 
 pub two-spec : {M : Type 1} → statement M
 two-spec =

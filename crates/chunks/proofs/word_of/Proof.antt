@@ -12,7 +12,7 @@ four-requires-3 : tie.Need-four-requires-3
 four-requires-3 c κs = let s = last-size _ (c .before .before .before .pre) (c .before .match .rest) in omega arith
 
 returns : tie.Need-returns
-returns c = one-byte (c .before .before .before .before .args .p .now) (c .before .before .match .keys1) (c .wide .ensures)
+returns c = one-byte (c .before .before .before .before .args .p .now) (c .before .before .match .keys1) (c .wide64 .ensures)
 
 returns-2 : tie.Need-returns-2
 returns-2 c = all-bytes 2 (c .before .before .before .args .p .now) (c .before .match .keys2) (c .two .ensures .0) (c .two .ensures .1)

@@ -92,11 +92,13 @@ write-spec =
     put-texted-requires
     (λ c. search needs)
     class-at-requires
+    (λ c. search needs)
     put-pi-requires
     (λ c. search needs)
     sub-parts-at
     parts-at-requires
     class-at-requires-2
+    (λ c. search needs)
     refer-requires
     (λ c. search needs)
     put-valued-requires

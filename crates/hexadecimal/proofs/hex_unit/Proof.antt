@@ -12,12 +12,12 @@ hex-digit-requires c κs = omega (arith, c .before .shared-slice-known2 .given (
 
 returns : tie.Need-returns
 returns c =
-    c .wide .ensures ∙ c .before .hex-digit .ensures ∙ hex-even _ _ (c .before .before .before .before .before .pre)
+    c .wide16 .ensures .0 ∙ c .before .hex-digit .ensures ∙ hex-even _ _ (c .before .before .before .before .before .pre)
     (c .before .before .if1 .taken)
 
 returns-2 : tie.Need-returns-2
 returns-2 c =
-    c .wide2 .ensures ∙ c .before .hex-digit2 .ensures ∙ hex-odd _ _ (c .before .before .before .before .before .pre)
+    c .wide162 .ensures .0 ∙ c .before .hex-digit2 .ensures ∙ hex-odd _ _ (c .before .before .before .before .before .pre)
     (c .before .before .if1 .left)
 
 pub hex-unit-spec : {M : Type 1} → statement M

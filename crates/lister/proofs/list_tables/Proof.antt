@@ -1,5 +1,5 @@
 -- `lister::list_tables` meets its contract. Assumes nothing.
-use Rattle.lister_contract.proofs.Listed.{renderable, too-small, written, numbers-fit}
+use Rattle.lister_contract.proofs.Listed.{too-small, written, numbers-fit}
 use native.Mathlib.Omega.{arith}
 use mathlib.Core.Path.{refl, sym}
 use Prim.Native.Nat.{ℕ}
@@ -17,7 +17,7 @@ name-classes-requires c κs =
 render-requires : tie.Need-render-requires
 render-requires c κs =
     let n = c .before .before .before .before .name-classes .ensures in
-    (renderable (c .before .before .before .before .before .before .before .before .before .before .before .before .pre .0) (n .1) (n .0), c .before .before .before .before .before .before .before .before .before .before .before .before .pre .1, length-replicate {A = ℕ} 2049 1, length-replicate {A = ℕ} 2049 1)
+    (record { filled = c .before .before .before .before .before .before .before .before .before .before .before .before .pre .0; classes-long = n .1; classes-are = n .0 }, c .before .before .before .before .before .before .before .before .before .before .before .before .pre .1, length-replicate {A = ℕ} 2049 1, length-replicate {A = ℕ} 2049 1)
 
 slice-aggregate-link : tie.Need-slice-aggregate-link
 slice-aggregate-link c = sym (c .before .before .before .before .render .ensures .starts-long)
@@ -36,7 +36,7 @@ returns c =
     let f = entry .pre .0 in
     let b : Bytes (entry .args .doc .now) = record { each = λ k. omega (arith, at-shared-slice-known .shared-slice-known .given k) } in
     let n = at-name-classes .name-classes .ensures in
-    too-small (entry .args .read) b (renderable f (n .1) (n .0)) (at-render .render .ensures) (c .before .link .ensures .0) (c .if1 .taken) refl
+    too-small (entry .args .read) b (record { filled = f; classes-long = n .1; classes-are = n .0 }) (at-render .render .ensures) (c .before .link .ensures .0) (c .if1 .taken) refl
 
 slice-aggregate-write-pairs : tie.Need-slice-aggregate-write-pairs
 slice-aggregate-write-pairs c = sym (c .before .before .before .before .before .before .before .before .before .before .render .ensures .starts-long)
@@ -58,7 +58,7 @@ returns-2 c =
     let f = entry .pre .0 in
     let b : Bytes (entry .args .doc .now) = record { each = λ k. omega (arith, at-shared-slice-known .shared-slice-known .given k) } in
     let n = at-name-classes .name-classes .ensures in
-    written (entry .args .read) b (renderable f (n .1) (n .0)) (at-render .render .ensures) (at-link .link .ensures .0) (at-if1 .if1 .left) (c .before .before .write-pairs .ensures) refl
+    written (entry .args .read) b (record { filled = f; classes-long = n .1; classes-are = n .0 }) (at-render .render .ensures) (at-link .link .ensures .0) (at-if1 .if1 .left) (c .before .before .write-pairs .ensures) refl
 
 pub list-tables-spec : {M : Type 1} → statement M
 list-tables-spec =

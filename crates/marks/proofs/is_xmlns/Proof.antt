@@ -15,9 +15,6 @@ returns-2 c = xmlns-none (c .before .before .before .args .text .now) (c .before
 slice-aggregate-same-bytes-2 : tie.Need-slice-aggregate-same-bytes-2
 slice-aggregate-same-bytes-2 c = simp length-take (omega arith)
 
-same-bytes-requires-2 : tie.Need-same-bytes-requires-2
-same-bytes-requires-2 c κs = simp length-take (omega arith)
-
 returns-3 : tie.Need-returns-3
 returns-3 c = xmlns-long (c .before .before .before .before .before .before .args .text .now) (c .before .before .before .before .if1 .left) _ (c .same-bytes2 .ensures)
 
@@ -32,5 +29,5 @@ is-xmlns-spec =
     returns-2
     slice-aggregate-same-bytes-2
     (λ c. search needs)
-    same-bytes-requires-2
+    (λ c κs. search needs)
     returns-3)

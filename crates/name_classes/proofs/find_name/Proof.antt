@@ -2,14 +2,14 @@
 -- measure: the rows that are ahead on the chain. Assumes nothing.
 use borrow.Author.Needs.{needs}
 use native.Mathlib.Omega.{arith}
-use Rattle.classes.specs.Search.{textOf, slotOf}
+use Rattle.classes.specs.Search.{rowTextAt, slotOf}
 use Rattle.classes.proofs.Chain.{Walk, walk-first, walk-on, walk-hit, walk-end, ahead, ahead-less}
 use Rattle.name_classes.proofs.Names.{name-hit, name-miss}
 use Rattle.name_classes.proofs.find_name.Statement.{statement}
 use Rattle.name_classes.proofs.find_name.Tie as tie
 
 abbrev Inv-loop : tie.InvT-loop
-Inv-loop doc names chain first r place units j₀ j = Walk (textOf doc names) slotOf (textOf doc names r) r j
+Inv-loop doc names chain first r place units j₀ j = Walk (rowTextAt doc names) slotOf (rowTextAt doc names r) r j
 
 abbrev μ-loop : tie.MeasureT-loop
 μ-loop doc names chain first r place units j₀ j = ahead j

@@ -4,7 +4,8 @@ use borrow.Author.Needs.{needs}
 use Prim.Native.Nat.{ℕ, _-_}
 use native.Mathlib.Omega.{arith}
 use lib.ListN.{length-replicate, getD-replicate}
-use Rattle.name_classes.proofs.Names.{given-table, table-to, Made, made-none, made-next, made-all, searched}
+use Rattle.machine.proofs.Tables.{names-inside}
+use Rattle.name_classes.proofs.Names.{table-to, Made, made-none, made-next, made-all, searched}
 use Rattle.name_classes.proofs.name_classes.Statement.{statement}
 use Rattle.name_classes.proofs.name_classes.Tie as tie
 
@@ -22,7 +23,7 @@ loop-holds c =
 slot-of-requires : tie.Need-slot-of-requires Inv-loop μ-loop
 slot-of-requires c κs =
     let p = c .before .before .before .before .pre in
-    table-to (given-table (p .0) (p .1) (p .2) (p .4)) (c .loop-test .taken)
+    table-to (names-inside (p .0) (p .1) (p .2) (p .4)) (c .loop-test .taken)
 
 cast-first : tie.Need-cast-first Inv-loop μ-loop
 cast-first c = omega (arith, c .before .before .loop .inv .slotted .heads (c .slot-of .result) (c .slot-of .ensures .1) .within)
@@ -31,7 +32,7 @@ find-name-requires : tie.Need-find-name-requires Inv-loop μ-loop
 find-name-requires c κs =
     let turn = c .before .before .before in
     let p = turn .before .before .before .pre in
-    searched _ _ _ _ _ _ _ _ (turn .loop .inv) (given-table (p .0) (p .1) (p .2) (p .4)) (c .before .before .loop-test .taken)
+    searched _ _ _ _ _ _ _ _ (turn .loop .inv) (names-inside (p .0) (p .1) (p .2) (p .4)) (c .before .before .loop-test .taken)
     (c .before .slot-of .ensures)
 
 loop-again : tie.Need-loop-again Inv-loop μ-loop
@@ -41,7 +42,7 @@ loop-again c =
     let slot = found .before .before in
     let turn = slot .before .before in
     let p = turn .before .before .before .pre in
-    made-next _ _ _ _ _ _ _ _ _ _ _ _ _ (turn .loop .inv) (given-table (p .0) (p .1) (p .2) (p .4)) (slot .before .loop-test .taken)
+    made-next _ _ _ _ _ _ _ _ _ _ _ _ _ (turn .loop .inv) (names-inside (p .0) (p .1) (p .2) (p .4)) (slot .before .loop-test .taken)
     (slot .slot-of .ensures) (found .find-name .ensures) (own .own-class .ensures) (c .before .before .before .class-or .ensures) (c .put-row .ensures)
 
 returns : tie.Need-returns Inv-loop μ-loop

@@ -28,7 +28,7 @@ raised-requires c κs = let u = c .before .before .before .before .before .befor
 loop-again : tie.Need-loop-again Inv-loop μ-loop
 loop-again c =
     let b = c .before .before .before in
-    going-on (b .before .before .before .before .loop .inv) (b .before .before .before .if1 .left) (b .before .before .if2 .left) (b .wide .ensures)
+    going-on (b .before .before .before .before .loop .inv) (b .before .before .before .if1 .left) (b .before .before .if2 .left) (b .wide-place .ensures .0)
     (c .before .before .grown .ensures) (c .before .if3 .left) (c .raised .ensures)
 
 returns : tie.Need-returns Inv-loop μ-loop
@@ -40,13 +40,13 @@ returns-2 c = too-short (c .before .before .loop .inv) (c .before .if1 .left) (c
 returns-3 : tie.Need-returns-3 Inv-loop μ-loop
 returns-3 c =
     let b = c .before .before .before in
-    too-large (b .before .before .before .before .loop .inv) (b .before .before .before .if1 .left) (b .before .before .if2 .left) (b .wide .ensures)
+    too-large (b .before .before .before .before .loop .inv) (b .before .before .before .if1 .left) (b .before .before .if2 .left) (b .wide-place .ensures .0)
     (c .before .before .grown .ensures) (c .before .if3 .taken) (c .if4 .taken)
 
 returns-4 : tie.Need-returns-4 Inv-loop μ-loop
 returns-4 c =
     let b = c .before .before .before in
-    found (b .before .before .before .before .loop .inv) (b .before .before .before .if1 .left) (b .before .before .if2 .left) (b .wide .ensures)
+    found (b .before .before .before .before .loop .inv) (b .before .before .before .if1 .left) (b .before .before .if2 .left) (b .wide-place .ensures .0)
     (c .before .before .grown .ensures) (c .before .if3 .taken) (c .if4 .left)
 
 pub read-spec : {M : Type 1} → statement M

@@ -1,7 +1,7 @@
 -- `print_reading::put_counts` meets its contract: what is put last stands first. Assumes nothing.
 use borrow.Author.Needs.{needs}
 use native.Mathlib.Omega.{arith}
-use Rattle.print_reading.specs.Report.{namesWord, qnamesWord, eventsWord, versionWord}
+use Rattle.print_reading.specs.Printed.{namesWord, qnamesWord, eventsWord, versionWord}
 use Rattle.print_rows.proofs.Fields.{field-long}
 use Rattle.print_reading.proofs.Fields.{counts-put}
 use Rattle.print_reading.proofs.put_counts.Statement.{statement}

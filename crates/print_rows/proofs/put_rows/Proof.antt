@@ -1,6 +1,6 @@
 -- `print_rows::put_rows` meets its contract: what is put last stands first. Assumes nothing.
 use borrow.Author.Needs.{needs}
-use Rattle.classes.specs.Tables.{nameRowsIn, qnameRowsIn, eventRowsIn}
+use Rattle.machine.specs.Tables.{nameRowsIn, qnameRowsIn, eventRowsIn}
 use Rattle.print_rows.proofs.Texts.{rows-put}
 use Rattle.print_rows.proofs.put_rows.Statement.{statement}
 use Rattle.print_rows.proofs.put_rows.Tie as tie

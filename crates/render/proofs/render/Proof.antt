@@ -16,25 +16,25 @@ abbrev μ-loop : tie.MeasureT-loop
 μ-loop doc names qnames events classes rows qrows count syms₀ starts₀ hashes₀ alphabet marks k₀ p₀ syms starts hashes k p = count - k
 
 fill-requires : tie.Need-fill-requires Inv-loop μ-loop
-fill-requires c κs = (c .before .before .before .before .before .before .before .pre .0 .qfew, length-replicate {A = ℕ} 1024 1, named-row (c .before .before .before .before .before .before .before .pre .0))
+fill-requires c κs = (c .before .before .before .before .before .before .before .pre .0 .filled .qfew, length-replicate {A = ℕ} 1024 1, named-row (c .before .before .before .before .before .before .before .pre .0))
 
 loop-holds : tie.Need-loop-holds Inv-loop μ-loop
 loop-holds c = rows-first (c .before .before .before .before .before .before .before .before .pre .0) _ _ _
 
 mul-cell : tie.Need-mul-cell Inv-loop μ-loop
-mul-cell c = omega (arith, c .loop-test .taken, c .before .before .before .before .before .before .before .before .before .before .pre .0 .efew)
+mul-cell c = omega (arith, c .loop-test .taken, c .before .before .before .before .before .before .before .before .before .before .pre .0 .filled .efew)
 
 cell-requires : tie.Need-cell-requires Inv-loop μ-loop
-cell-requires c κs = omega (arith, c .loop-test .taken, c .before .before .before .before .before .before .before .before .before .before .pre .0 .elong)
+cell-requires c κs = omega (arith, c .loop-test .taken, c .before .before .before .before .before .before .before .before .before .before .pre .0 .filled .elong)
 
 mul-cell-2 : tie.Need-mul-cell-2 Inv-loop μ-loop
-mul-cell-2 c = omega (arith, c .before .loop-test .taken, c .before .before .before .before .before .before .before .before .before .before .before .pre .0 .efew)
+mul-cell-2 c = omega (arith, c .before .loop-test .taken, c .before .before .before .before .before .before .before .before .before .before .before .pre .0 .filled .efew)
 
 add-cell : tie.Need-add-cell Inv-loop μ-loop
-add-cell c = omega (arith, c .before .loop-test .taken, c .before .before .before .before .before .before .before .before .before .before .before .pre .0 .efew)
+add-cell c = omega (arith, c .before .loop-test .taken, c .before .before .before .before .before .before .before .before .before .before .before .pre .0 .filled .efew)
 
 cell-requires-2 : tie.Need-cell-requires-2 Inv-loop μ-loop
-cell-requires-2 c κs = omega (arith, c .before .loop-test .taken, c .before .before .before .before .before .before .before .before .before .before .before .pre .0 .elong)
+cell-requires-2 c κs = omega (arith, c .before .loop-test .taken, c .before .before .before .before .before .before .before .before .before .before .before .pre .0 .filled .elong)
 
 put-row-requires : tie.Need-put-row-requires Inv-loop μ-loop
 put-row-requires c κs =
@@ -50,13 +50,13 @@ put-row-requires c κs =
     let w = at-loop .loop .inv in
     let t = at-loop-test .loop-test .taken in
     let m = at-fill .fill .ensures in
-    (at-alphabet .alphabet .ensures, row-fits d w m t _ _ (at-cell .cell .ensures .0) (at-cell2 .cell2 .ensures .0), row-room d w m t _ _ (at-cell .cell .ensures .0) (at-cell2 .cell2 .ensures .0) (s .pre .1), omega (arith, t, d .efew), omega (arith, t, d .elong), omega (arith, n-small d w), omega (arith, w .shallow, t, d .efew), starts-long d w ∙ s .pre .2, hashes-long d w ∙ s .pre .3)
+    (at-alphabet .alphabet .ensures, row-fits d w m t _ _ (at-cell .cell .ensures .0) (at-cell2 .cell2 .ensures .0), row-room d w m t _ _ (at-cell .cell .ensures .0) (at-cell2 .cell2 .ensures .0) (s .pre .1), omega (arith, t, d .filled .efew), omega (arith, t, d .filled .elong), omega (arith, n-small d w), omega (arith, w .shallow, t, d .filled .efew), starts-long d w ∙ s .pre .2, hashes-long d w ∙ s .pre .3)
 
 add-k : tie.Need-add-k Inv-loop μ-loop
 add-k c =
     let at-loop-test = c .before .before .before .before .before .before .before .before .before .before in
     let entry = at-loop-test .before .before .before .before .before .before .before .before .before .before in
-    omega (arith, at-loop-test .loop-test .taken, entry .pre .0 .efew)
+    omega (arith, at-loop-test .loop-test .taken, entry .pre .0 .filled .efew)
 
 loop-less : tie.Need-loop-less Inv-loop μ-loop
 loop-less c = omega (arith, c .before .before .before .before .before .before .before .before .before .before .loop-test .taken)

@@ -56,7 +56,7 @@ returns-2 c =
     let at-if1 = c .before .before .before .before .before .before .before .before .before .before .before .before .before .before .before .before .before .before .before in
     let at-read = at-if1 .before .before .before .before .before .before .before .before in
     let entry = at-read .before .before .before .before .before .before .before .before .before in
-    let a = entry .args in formed (a .doc .now) (at-read .read .ensures) (at-if1 .if1 .left) _ _ (a .out .now) _ (c .before .before .write-form .ensures)
+    let a = entry .args in formed (a .doc .now) (at-read .read .ensures) (at-if1 .if1 .left) (a .out .now) _ (c .before .before .write-form .ensures)
 
 pub rewrite-spec : {M : Type 1} → statement M
 rewrite-spec =

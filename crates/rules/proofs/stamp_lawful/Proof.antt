@@ -5,7 +5,7 @@ use Rattle.rules.proofs.stamp_lawful.Statement.{statement}
 use Rattle.rules.proofs.stamp_lawful.Tie as tie
 
 returns : tie.Need-returns
-returns c = stamp-low _ _ (c .before .before .if1 .taken) (c .wide .ensures .0)
+returns c = stamp-low _ _ (c .before .before .if1 .taken) (c .wide-place .ensures .0)
 
 returns-2 : tie.Need-returns-2
 returns-2 c = stamp-sized _ _ (c .if1 .left)

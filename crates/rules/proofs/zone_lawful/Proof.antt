@@ -12,9 +12,9 @@ returns c =
     let p = c .before .before .before .before .before .before .args .p .now in
     let at = c .before .before .before .before .before .before .args .at in
     let l = little-two p at (c .before .before .before .before .before .before .pre) in
-    let x = c .before .before .before .wide .ensures .0 in
-    let y = c .before .wide2 .ensures .0 in
-    let e : c .before .before .before .wide .result + 256 * c .before .wide2 .result ≡ little (part p at 2) = rw (x, y) (sym l) in
+    let x = c .before .before .before .wide-place .ensures .0 in
+    let y = c .before .wide-place2 .ensures .0 in
+    let e : c .before .before .before .wide-place .result + 256 * c .before .wide-place2 .result ≡ little (part p at 2) = rw (x, y) (sym l) in
     zone-east (part p at 2) e (c .if1 .taken)
 
 returns-2 : tie.Need-returns-2
@@ -22,9 +22,9 @@ returns-2 c =
     let p = c .before .before .before .before .before .before .args .p .now in
     let at = c .before .before .before .before .before .before .args .at in
     let l = little-two p at (c .before .before .before .before .before .before .pre) in
-    let x = c .before .before .before .wide .ensures .0 in
-    let y = c .before .wide2 .ensures .0 in
-    let e : c .before .before .before .wide .result + 256 * c .before .wide2 .result ≡ little (part p at 2) = rw (x, y) (sym l) in
+    let x = c .before .before .before .wide-place .ensures .0 in
+    let y = c .before .wide-place2 .ensures .0 in
+    let e : c .before .before .before .wide-place .result + 256 * c .before .wide-place2 .result ≡ little (part p at 2) = rw (x, y) (sym l) in
     zone-west (part p at 2) e (c .if1 .left)
 
 pub zone-lawful-spec : {M : Type 1} → statement M

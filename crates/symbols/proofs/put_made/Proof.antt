@@ -30,7 +30,7 @@ slice-write-syms c = let g = c .before .before .before .loop .inv in omega (arit
 loop-again : tie.Need-loop-again Inv-loop μ-loop
 loop-again c =
     let g = c .before .before .before .before .loop .inv in
-    (omega arith, simp length-set (g .1), go-to (omega arith) (go-step (g .2) _ _ _ (list-step _ _ _ _ (c .before .before .before .before .before .before .before .pre .3) (c .before .before .before .loop-test .taken) (c .before .widen .ensures ∙ c .before .before .unit .ensures)) (c .mix .ensures)))
+    (omega arith, simp length-set (g .1), go-to (omega arith) (go-step (g .2) _ _ _ (list-step _ _ _ _ (c .before .before .before .before .before .before .before .pre .3) (c .before .before .before .loop-test .taken) (c .before .unit-number .ensures ∙ c .before .before .unit .ensures)) (c .mix .ensures)))
 
 same-length : tie.Need-same-length Inv-loop μ-loop
 same-length c = c .before .loop .inv .1

@@ -4,7 +4,7 @@ use Rattle.units.proofs.unit_of.Statement.{statement}
 use Rattle.units.proofs.unit_of.Tie as tie
 
 returns : tie.Need-returns
-returns c = rw (c .before .before .wide .ensures .0, c .wide2 .ensures .0)
+returns c = rw (c .before .before .wide16 .ensures .0, c .wide162 .ensures .0)
 
 pub unit-of-spec : {M : Type 1} → statement M
 unit-of-spec =

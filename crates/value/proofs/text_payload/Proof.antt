@@ -2,7 +2,8 @@
 use borrow.Author.Needs.{needs}
 use mathlib.Core.Path.{sym, ap, subst}
 use Rattle.value.specs.declared.Text.{Text}
-use Rattle.value.specs.Fields.{Halved, textPayload}
+use Rattle.value.specs.Bounds.{Halved}
+use Rattle.value.specs.Fields.{textPayload}
 use native.Mathlib.Omega.{arith}
 use Rattle.value.proofs.text_payload.Statement.{statement}
 use Rattle.value.proofs.text_payload.Tie as tie

@@ -1,6 +1,6 @@
--- The rows of a table of numbers: how many, which stands where, and that a table filled with rows gives them back. Assumes
--- nothing.
-use Prim.Native.Nat.{ℕ, zero, suc, _+_, _*_, _<_}
+-- The rows of a table of numbers: how many, which stands where, that a table filled with rows gives them back, and that texts
+-- of names lie in the document. Assumes nothing.
+use Prim.Native.Nat.{ℕ, zero, suc, _+_, _*_, _≤_, _<_}
 use mathlib.Core.Path.{_≡_, refl, ap}
 use mathlib.Core.Option.{none, some}
 use mathlib.Core.List.{List, [], _∷_, _++_, map}
@@ -8,9 +8,11 @@ use native.Mathlib.Omega.{arith}
 use lib.ListN.{length, getD, getElem?, drop}
 use lib.Seq.{getD-drop}
 use Rattle.sequences.specs.Lists.{overlay}
 use Rattle.machine.specs.Rows.{NameRow, QnameRow, EventRow, nameRow, qnameRow, event, flatNames, flatQnames, flatEvents}
-use Rattle.machine.specs.Facts.{Every, none, first}
-use Rattle.classes.specs.Tables.{nameRowsIn, qnameRowsIn, eventRowsIn}
+use Rattle.sequences.specs.Members.{Every, first, none}
+use Rattle.machine.specs.Facts.{none, NameFits}
+use Rattle.machine.specs.Tables.{nameRowsIn, qnameRowsIn, eventRowsIn, NamesInside}
+use Rattle.token.specs.Answers.{qnameWidth, eventWidth}
 
 -- an element that stands somewhere
 module _ {A : Type 0} where
@@ -65,29 +67,29 @@ name-row-at (suc n) l (suc k) h =
     rw (e′, e, ← getD-drop 2 l (2 * k) 0, ← getD-drop 2 l (2 * k + 1) 0) (name-row-at n (drop 2 l) k (omega arith))
 
 pub qname-row-at : (n : ℕ) (l : List ℕ) (k : ℕ) → k < n
-    → getElem? (qnameRowsIn n l) k ≡ some (qnameRow (getD l (3 * k) 0) (getD l (3 * k + 1) 0) (getD l (3 * k + 2) 0))
+    → getElem? (qnameRowsIn n l) k ≡ some (qnameRow (getD l (qnameWidth * k) 0) (getD l (qnameWidth * k + 1) 0) (getD l (qnameWidth * k + 2) 0))
 qname-row-at zero l k h = absurd (let q : ⊥ = omega arith in q)
 qname-row-at (suc n) l zero h = refl
 qname-row-at (suc n) l (suc k) h =
-    let e : 3 * suc k ≡ 3 + 3 * k = omega arith in
-    let e′ : 3 * suc k + 1 ≡ 3 + (3 * k + 1) = omega arith in
-    let e″ : 3 * suc k + 2 ≡ 3 + (3 * k + 2) = omega arith in
-    rw (e″, e′, e, ← getD-drop 3 l (3 * k) 0, ← getD-drop 3 l (3 * k + 1) 0, ← getD-drop 3 l (3 * k + 2) 0) (qname-row-at n (drop 3 l) k (omega arith))
+    let e : qnameWidth * suc k ≡ 3 + qnameWidth * k = omega arith in
+    let e′ : qnameWidth * suc k + 1 ≡ 3 + (qnameWidth * k + 1) = omega arith in
+    let e″ : qnameWidth * suc k + 2 ≡ 3 + (qnameWidth * k + 2) = omega arith in
+    rw (e″, e′, e, ← getD-drop 3 l (qnameWidth * k) 0, ← getD-drop 3 l (qnameWidth * k + 1) 0, ← getD-drop 3 l (qnameWidth * k + 2) 0) (qname-row-at n (drop 3 l) k (omega arith))
 
 pub event-row-at : (n : ℕ) (l : List ℕ) (k : ℕ) → k < n
-    → getElem? (eventRowsIn n l) k ≡ some (event (getD l (4 * k) 0) (getD l (4 * k + 1) 0) (getD l (4 * k + 2) 0) (getD l (4 * k + 3) 0))
+    → getElem? (eventRowsIn n l) k ≡ some (event (getD l (eventWidth * k) 0) (getD l (eventWidth * k + 1) 0) (getD l (eventWidth * k + 2) 0) (getD l (eventWidth * k + 3) 0))
 event-row-at zero l k h = absurd (let q : ⊥ = omega arith in q)
 event-row-at (suc n) l zero h = refl
 event-row-at (suc n) l (suc k) h =
-    let e : 4 * suc k ≡ 4 + 4 * k = omega arith in
-    let e₁ : 4 * suc k + 1 ≡ 4 + (4 * k + 1) = omega arith in
-    let e₂ : 4 * suc k + 2 ≡ 4 + (4 * k + 2) = omega arith in
-    let e₃ : 4 * suc k + 3 ≡ 4 + (4 * k + 3) = omega arith in
-    rw (e₃, e₂, e₁, e, ← getD-drop 4 l (4 * k) 0, ← getD-drop 4 l (4 * k + 1) 0, ← getD-drop 4 l (4 * k + 2) 0, ← getD-drop 4 l (4 * k + 3) 0)
+    let e : eventWidth * suc k ≡ 4 + eventWidth * k = omega arith in
+    let e₁ : eventWidth * suc k + 1 ≡ 4 + (eventWidth * k + 1) = omega arith in
+    let e₂ : eventWidth * suc k + 2 ≡ 4 + (eventWidth * k + 2) = omega arith in
+    let e₃ : eventWidth * suc k + 3 ≡ 4 + (eventWidth * k + 3) = omega arith in
+    rw (e₃, e₂, e₁, e, ← getD-drop 4 l (eventWidth * k) 0, ← getD-drop 4 l (eventWidth * k + 1) 0, ← getD-drop 4 l (eventWidth * k + 2) 0, ← getD-drop 4 l (eventWidth * k + 3) 0)
     (event-row-at n (drop 4 l) k (omega arith))
 
 pub event-rows-from : (n : ℕ) (l : List ℕ) (k : ℕ) → k < n
-    → drop k (eventRowsIn n l) ≡ event (getD l (4 * k) 0) (getD l (4 * k + 1) 0) (getD l (4 * k + 2) 0) (getD l (4 * k + 3) 0) ∷ drop (suc k) (eventRowsIn n l)
+    → drop k (eventRowsIn n l) ≡ event (getD l (eventWidth * k) 0) (getD l (eventWidth * k + 1) 0) (getD l (eventWidth * k + 2) 0) (getD l (eventWidth * k + 3) 0) ∷ drop (suc k) (eventRowsIn n l)
 event-rows-from n l k h = at-drop (eventRowsIn n l) k (event-row-at n l k h)
 
 -- rows laid over the front of a table are the rows in it
@@ -111,3 +113,9 @@ event-rows-back rows l = back rows (drop (length (flatEvents rows)) l)
     back : (rows : List EventRow) (t : List ℕ) → eventRowsIn (length rows) (flatEvents rows ++ t) ≡ rows
     back [] t = refl
     back (r ∷ rows) t = ap (λ (x : List EventRow). r ∷ x) (back rows t)
+
+-- the text of each row of names that fits is inside the document
+pub names-inside : {doc names : List ℕ} {rows : ℕ} → rows ≤ 1024 → 2 * rows ≤ length names → length doc ≤ 65536
+    → Every (NameFits (length doc)) (nameRowsIn rows names) → NamesInside doc names rows
+names-inside {names = names} {rows} a b c d =
+    record { few = a; long = b; short = c; inside = λ k h. every-at d k (name-row-at rows names k h) .inside }

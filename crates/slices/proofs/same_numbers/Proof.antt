@@ -1,12 +1,11 @@
--- `twins::same_syms` meets its contract. The loop's invariant: the lists agree below i. Assumes nothing.
+-- `slices::same_numbers` meets its contract. The loop's invariant: the lists agree below i. Assumes nothing.
 use borrow.Author.Count.{below-none, below-more}
 use borrow.Author.Needs.{needs}
 use Prim.Native.Nat.{_≤_, _-_}
-use mathlib.Core.Path.{ap}
 use lib.ListN.{length}
-use Rattle.twins.proofs.Equal.{Agree, not-same, differ-at, agree-all}
-use Rattle.twins.proofs.same_syms.Statement.{statement}
-use Rattle.twins.proofs.same_syms.Tie as tie
+use Rattle.sequences.proofs.Same.{Agree, differ-long, differ-at, agree-all}
+use Rattle.slices.proofs.same_numbers.Statement.{statement}
+use Rattle.slices.proofs.same_numbers.Tie as tie
 
 abbrev Inv-loop : tie.InvT-loop
 Inv-loop a b i₀ i = (i ≤ length a) × Agree a b i
@@ -15,7 +14,7 @@ abbrev μ-loop : tie.MeasureT-loop
 μ-loop a b i₀ i = length a - i
 
 returns : tie.Need-returns Inv-loop μ-loop
-returns c = not-same (c .before .args .a .now) (c .before .args .b .now) (λ e. c .if1 .taken (ap length e))
+returns c = differ-long (c .before .args .a .now) (c .before .args .b .now) (c .if1 .taken)
 
 loop-holds : tie.Need-loop-holds Inv-loop μ-loop
 loop-holds c = (search needs, below-none _)
@@ -33,8 +32,8 @@ returns-3 c =
     let s = c .before .before .before in
     agree-all (s .args .a .now) (s .args .b .now) _ (c .before .before .if1 .left) (c .loop-test .left) (c .before .loop .inv .1)
 
-pub same-syms-spec : {M : Type 1} → statement M
-same-syms-spec =
+pub same-numbers-spec : {M : Type 1} → statement M
+same-numbers-spec =
     tie.close
     (tie.spec
     Inv-loop

@@ -7,7 +7,7 @@ use mathlib.Core.List.{List, [], _∷_, _++_}
 use lib.Dec.{eqb}
 use Rattle.token.specs.Answers.{accepted}
 use Rattle.machine.specs.Machine.{Result, reading}
-use Rattle.machine.specs.Contract.{answerOf}
+use Rattle.machine.specs.Contract.{readAnswer}
 use Rattle.machine.specs.Examples.{full}
 use Rattle.machine.specs.declared.Answer.{Answer}
 use Rattle.print_lines.specs.Lines.{field, acceptedWord, refusedWord, atWord}
@@ -40,7 +40,7 @@ answerLine a = verdict a ++ counts (a .names) (a .qnames) (a .events) (a .versio
 
 -- tables at the full bounds
 unfoldable pub printed : List ℕ → List ℕ
-printed doc = answerLine (answerOf r) ++ rowLines (r .final .names) (r .final .qnames) (r .final .events)
+printed doc = answerLine (readAnswer r) ++ rowLines (r .final .names) (r .final .qnames) (r .final .events)
   where
     r : Result
     r = reading doc full

@@ -1,7 +1,7 @@
 -- Three parts of one array, and the pairs of equal ones. Assumes nothing.
 use mathlib.Core.Path.{_≡_, refl}
 use mathlib.Core.List.{[], _∷_}
-use Rattle.meaning.specs.Meaning.{same}
+use Rattle.sequences.specs.Lists.{same}
 use Rattle.meaning.specs.Pairs.{equalTo, pairsFrom, pairsOf, flatPairs}
 use Rattle.twins.specs.Parts.{values, partsOf}
 
