@@ -82,78 +82,9 @@ fn list_tables(
     }
 }
 
-// The same with an array of its own: one function for each size, so that a small document does not pay for clearing the largest.
-fn list_small(
-    doc: &[u8],
-    names: &[u32],
-    qnames: &[u32],
-    events: &[u32],
-    read: machine::Answer,
-    pairs: &mut [u32],
-) -> Answer
-    requires { ⌜ Filled (now doc) (now names) (now qnames) (now events) (read .names) (read .qnames) (read .events)
-        × (roomFor (length (now doc)) (read .events) ≤ 40960) ⌝ }
-    ensures { λ r. ⌜ TablesListed (now (doc .entry)) (now (names .entry)) (now (qnames .entry)) (now (events .entry)) read (now (pairs .entry)) (now (pairs .exit)) r ⌝ }
-{
-    let mut syms = [1u32; SMALL];
-    list_tables(doc, names, qnames, events, read, &mut syms, pairs)
-}
-
-fn list_medium(
-    doc: &[u8],
-    names: &[u32],
-    qnames: &[u32],
-    events: &[u32],
-    read: machine::Answer,
-    pairs: &mut [u32],
-) -> Answer
-    requires { ⌜ Filled (now doc) (now names) (now qnames) (now events) (read .names) (read .qnames) (read .events)
-        × (roomFor (length (now doc)) (read .events) ≤ 65536) ⌝ }
-    ensures { λ r. ⌜ TablesListed (now (doc .entry)) (now (names .entry)) (now (qnames .entry)) (now (events .entry)) read (now (pairs .entry)) (now (pairs .exit)) r ⌝ }
-{
-    let mut syms = [1u32; MEDIUM];
-    list_tables(doc, names, qnames, events, read, &mut syms, pairs)
-}
-
-fn list_large(
-    doc: &[u8],
-    names: &[u32],
-    qnames: &[u32],
-    events: &[u32],
-    read: machine::Answer,
-    pairs: &mut [u32],
-) -> Answer
-    requires { ⌜ Filled (now doc) (now names) (now qnames) (now events) (read .names) (read .qnames) (read .events)
-        × (roomFor (length (now doc)) (read .events) ≤ 335872) ⌝ }
-    ensures { λ r. ⌜ TablesListed (now (doc .entry)) (now (names .entry)) (now (qnames .entry)) (now (events .entry)) read (now (pairs .entry)) (now (pairs .exit)) r ⌝ }
-{
-    let mut syms = [1u32; LARGE];
-    list_tables(doc, names, qnames, events, read, &mut syms, pairs)
-}
-
-// Lists through the smallest of the three arrays that has room for every document of this size.
-fn list_read(
-    doc: &[u8],
-    names: &[u32],
-    qnames: &[u32],
-    events: &[u32],
-    read: machine::Answer,
-    pairs: &mut [u32],
-) -> Answer
-    requires { ⌜ Filled (now doc) (now names) (now qnames) (now events) (read .names) (read .qnames) (read .events) ⌝ }
-    ensures { λ r. ⌜ TablesListed (now (doc .entry)) (now (names .entry)) (now (qnames .entry)) (now (events .entry)) read (now (pairs .entry)) (now (pairs .exit)) r ⌝ }
-{
-    let need = 5 * doc.len() + 2 * read.events;
-    if need <= SMALL {
-        return list_small(doc, names, qnames, events, read, pairs);
-    }
-    if need <= MEDIUM {
-        return list_medium(doc, names, qnames, events, read, pairs);
-    }
-    list_large(doc, names, qnames, events, read, pairs)
-}
-
-// Fills the three tables as reading does, and then the list. The local arrays take up to 1.5 MB of the stack.
+// Fills the three tables as reading does, and then the list. The meanings are rendered into the smallest of three arrays that
+// has room for every document of this size, so that a small document does not pay for clearing the largest. The local arrays
+// take up to 1.5 MB of the stack.
 pub fn list(
     doc: &[u8],
     names: &mut [u32],
@@ -169,5 +100,15 @@ pub fn list(
     if read.number != 0 {
         return refused(read.number, read.place);
     }
-    list_read(doc, names, qnames, events, read, pairs)
+    let need = 5 * doc.len() + 2 * read.events;
+    if need <= SMALL {
+        let mut small = [1u32; SMALL];
+        return list_tables(doc, names, qnames, events, read, &mut small, pairs);
+    }
+    if need <= MEDIUM {
+        let mut medium = [1u32; MEDIUM];
+        return list_tables(doc, names, qnames, events, read, &mut medium, pairs);
+    }
+    let mut large = [1u32; LARGE];
+    list_tables(doc, names, qnames, events, read, &mut large, pairs)
 }
