@@ -11,12 +11,9 @@ use libc::STDOUT_FILENO;
 // The text of one file, and one byte more, so that a longer file is noticed.
 const FILE_ROOM: usize = 1048577;
 
-// What `print_reading::print` needs.
-const REPORT_ROOM: usize = print_reading::PRINTED;
-
 // Writes what the reading program writes.
 fn write_reading(doc: &[u8]) {
-    let mut text = [0u8; REPORT_ROOM];
+    let mut text = print_reading::blank();
     let from = print_reading::print(doc, &mut text);
     io::write_all(STDOUT_FILENO, &text[from..]);
 }

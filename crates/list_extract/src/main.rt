@@ -7,7 +7,7 @@ fn main() {
     if !console::input_whole(size, 65537) {
         return;
     }
-    let mut text = [0u8; print_listing::PRINTED];
+    let mut text = print_listing::blank();
     let from = print_listing::print(&doc[..size], &mut text);
     console::write_output(&text[from..]);
 }

@@ -67,3 +67,10 @@ pub fn print(doc: &[u8], text: &mut [u8]) -> usize
     let end = print_rows::put_rows(text, &names, &qnames, &events, a.names, a.qnames, a.events);
     put_answer(text, end, a)
 }
+
+// Zeros for the text that is printed. The `ensures` gives only their number, so that no proof computes with a list so long.
+pub fn blank() -> [u8; PRINTED]
+    ensures { λ r. ⌜ length r ≡ 239771 ⌝ }
+{
+    [0; PRINTED]
+}

@@ -6,7 +6,7 @@ fn main() {
     if !console::input_whole(size, 65537) {
         return;
     }
-    let mut text = [0u8; print_reading::PRINTED];
+    let mut text = print_reading::blank();
     let from = print_reading::print(&doc[..size], &mut text);
     console::write_output(&text[from..]);
 }

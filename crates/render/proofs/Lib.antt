@@ -1,4 +1,3 @@
-pub mod Rows
 pub mod Tokens
 pub mod Names
 pub mod Sums

@@ -17,13 +17,13 @@ use Rattle.meaning.specs.Meaning.{Symbol, Attribute, none-open, symbolsOf, attr
 use Rattle.meaning.specs.Codes.{codesOf}
 use Rattle.meaning.proofs.Codes.{codes-append}
 use Rattle.hash.specs.Hash.{hashFrom, hashOf, seed}
-use Rattle.render.specs.declared.Progress.{Progress}
+use Rattle.render_elements.specs.declared.Progress.{Progress}
 use Rattle.render.specs.Render.{Renderable, Rendered, roomFor}
 use Rattle.marks.specs.Names.{classIn}
 use Rattle.symbols.specs.Store.{NumbersPut}
-use Rattle.render.specs.Codes.{attributeOf, codesBy, rowBy, beginsBy, depthBy, roomBy, RowFits}
+use Rattle.render_elements.specs.Codes.{attributeOf, codesBy, rowBy, beginsBy, depthBy, roomBy, RowFits}
 use Rattle.marks.specs.Marks.{openingIn, MarksOf}
-use Rattle.render.specs.Effects.{RowDone}
+use Rattle.render_elements.specs.Effects.{RowDone}
 use Rattle.symbols.proofs.Going.{put-put, put-none, put-long, put-as, put-set}
 use Rattle.render.proofs.Tokens.{Ahead, ahead-of, ahead-le, fits-room}
 use Rattle.render.proofs.Says.{Says, says, row-few}

@@ -28,10 +28,10 @@ use Rattle.meaning.specs.Codes.{mark, both, codesOf}
 use Rattle.meaning.proofs.Codes.{codes-append}
 use Rattle.render.specs.Render.{Renderable}
 use Rattle.marks.specs.Names.{classIn, uriAt, prefixAt, localAt, pairOf, Named, declaresAt}
-use Rattle.render.specs.Codes.{attributeOf, isValue, closeBy, countedBy, valueBy, codesBy, rowBy, attributeBy, roomBy, RowFits}
+use Rattle.render_elements.specs.Codes.{attributeOf, isValue, closeBy, countedBy, valueBy, codesBy, rowBy, attributeBy, roomBy, RowFits}
 use Rattle.symbols.specs.Values.{valueCodes}
 use Rattle.marks.specs.Marks.{openingIn, declaredIn, MarksOf}
-use Rattle.render.proofs.Rows.{close-few, is-value}
+use Rattle.render_elements.proofs.Rows.{close-few, is-value}
 use Rattle.symbols.proofs.Rooms.{text-room}
 use Rattle.marks.proofs.MarkLaws.{mark-opening, mark-attribute, mark-declares, mark-counts, mark-qname}
 use Rattle.symbols.proofs.Texts.{units-long}

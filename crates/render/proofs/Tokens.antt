@@ -22,8 +22,8 @@ use Rattle.machine.specs.Rows.{EventRow}
 use Rattle.machine.specs.Facts as facts
 use Rattle.machine.specs.Facts.{textTokens, qnameTokens, bareTokens, EventFits, Placed}
 use Rattle.machine.proofs.Facts.{every-one-of}
-use Rattle.render.specs.Codes.{roomBy}
-use Rattle.render.proofs.Rows.{room-value}
+use Rattle.render_elements.specs.Codes.{roomBy}
+use Rattle.render_elements.proofs.Rows.{room-value}
 
 -- ---- the codes of values
 

@@ -1,3 +1,1 @@
 pub mod Render
-pub mod Codes
-pub mod Effects

@@ -1,21 +1,17 @@
 // The meanings of all records as numbers, one after the other in one array, with the place where each begins and its hash. One
 // walk over the rows of events.
 ghost use mathlib.Core.Path.{_≡_};
-ghost use mathlib.Core.Bool.{cond};
-ghost use mathlib.Core.List.{[], _∷_, _++_};
 ghost use Prim.Native.Nat.{_+_, _-_, _*_, _≤_, _<_};
-ghost use lib.Dec.{leb};
 ghost use lib.ListN.{length, getD};
 ghost use Rattle.sequences.specs.Lists.{part, unitsOf};
 ghost use Rattle.base64.specs.Base64.{Alphabet};
-ghost use Rattle.meaning.specs.Codes.{mark};
 ghost use Rattle.symbols.specs.Store.{PutHashed};
-ghost use Rattle.marks.specs.Marks.{openingIn, declaredIn, declaring};
-ghost use Rattle.render.specs.Codes.{closeBy, countedBy, valueBy, unlessOut, rowBy, depthBy, attributeBy, roomBy, RowFits};
-ghost use Rattle.render.specs.Effects.{cursorOf, movedTo, attributed, Begun, RowPut, RowDone};
+ghost use Rattle.render_elements.specs.Codes.{countedBy, valueBy, unlessOut, rowBy, depthBy, attributeBy, roomBy, RowFits};
+ghost use Rattle.render_elements.specs.Effects.{RowPut, RowDone};
 ghost use Rattle.render.specs.Render.{Renderable, Rendered, roomFor};
 ghost use Rattle.token.specs.Codes.{ELEMENT-TOKEN, ENDELEMENT-TOKEN};
 ghost use Rattle.token.specs.Answers.{eventWidth};
+use render_elements::Progress;
 use symbols::Cursor;
 
 // Codes of tokens (004, section 2), as the table of events has them.
@@ -31,161 +27,6 @@ const CDATA: usize = token::CDATA_TOKEN as usize;
 
 const QNAME: usize = token::XSD_QNAME as usize;
 
-// ---- rows
-
-// What the walk knows: the place of the next number and the hash of the record's numbers so far; how many records have
-// begun; how many elements are open; and the open attribute: 0 for none, 1 where it counts, 2 where it does not.
-pub struct Progress {
-    pub at: usize,
-    pub hash: u64,
-    pub records: usize,
-    pub depth: usize,
-    pub attribute: usize,
-}
-
-fn cursor_of(p: Progress) -> Cursor
-    ensures { λ r. ⌜ r ≡ cursorOf p ⌝ }
-{
-    Cursor {
-        at: p.at,
-        hash: p.hash,
-    }
-}
-
-// After numbers were written.
-fn moved(p: Progress, i: Cursor) -> Progress
-    ensures { λ r. ⌜ r ≡ movedTo p i ⌝ }
-{
-    Progress {
-        at: i.at,
-        hash: i.hash,
-        records: p.records,
-        depth: p.depth,
-        attribute: p.attribute,
-    }
-}
-
-fn with_attribute(p: Progress, attribute: usize) -> Progress
-    ensures { λ r. ⌜ r ≡ attributed p attribute ⌝ }
-{
-    Progress {
-        at: p.at,
-        hash: p.hash,
-        records: p.records,
-        depth: p.depth,
-        attribute,
-    }
-}
-
-// Where no element is open a record begins: the place of its first number, and the hash of the record before it.
-fn begin(
-    starts: &mut [usize; twins::BOUNDS],
-    hashes: &mut [u64; twins::BOUNDS],
-    p: Progress,
-) -> Progress
-    requires { ⌜ (p .records < 2049) × (length (now starts) ≡ 2049) × (length (now hashes) ≡ 2049) ⌝ }
-    ensures { λ r. ⌜ Begun (now (starts .entry)) (now (hashes .entry)) p (now (starts .exit)) (now (hashes .exit)) r ⌝ }
-{
-    if p.depth != 0 {
-        return p;
-    }
-    let n = p.records;
-    starts[n] = p.at;
-    hashes[n] = p.hash;
-    Progress {
-        at: p.at,
-        hash: hash::SEED,
-        records: n + 1,
-        depth: p.depth,
-        attribute: p.attribute,
-    }
-}
-
-// ELEMENT.
-fn open(marks: &[u32; token::QNAME_ROWS], syms: &mut [u32], p: Progress, row: usize) -> Progress
-    requires { ⌜ (1 ≤ row) × (row ≤ 1024) × (p .at < length (now syms)) × (p .depth ≤ 4096) ⌝ }
-    ensures { λ r. ⌜ RowPut (openingIn (now (marks .entry)) row ∷ []) (p .attribute) (p .depth + 1) (now (syms .entry)) p (now (syms .exit)) r ⌝ }
-{
-    let mark = marks[row - 1] % marks::DECLARING;
-    let i = symbols::put_one(syms, cursor_of(p), mark);
-    Progress {
-        at: i.at,
-        hash: i.hash,
-        records: p.records,
-        depth: p.depth + 1,
-        attribute: p.attribute,
-    }
-}
-
-// ENDELEMENT.
-fn close(syms: &mut [u32], p: Progress) -> Progress
-    requires { ⌜ p .at < length (now syms) ⌝ }
-    ensures { λ r. ⌜ RowPut (unlessOut (p .depth) (mark 3 0 ∷ [])) (p .attribute) (p .depth - 1) (now (syms .entry)) p (now (syms .exit)) r ⌝ }
-{
-    if p.depth == 0 {
-        return p;
-    }
-    let i = symbols::put_one(syms, cursor_of(p), symbols::END_MARK);
-    Progress {
-        at: i.at,
-        hash: i.hash,
-        records: p.records,
-        depth: p.depth - 1,
-        attribute: p.attribute,
-    }
-}
-
-// An open attribute that counts is closed.
-fn put_close(syms: &mut [u32], i: Cursor, attribute: usize) -> Cursor
-    requires { ⌜ i .at < length (now syms) ⌝ }
-    ensures { λ r. ⌜ PutHashed (now (syms .entry)) i (closeBy attribute) (now (syms .exit)) r ⌝ }
-{
-    if attribute == 1 {
-        return symbols::put_one(syms, i, symbols::CLOSING_MARK);
-    }
-    i
-}
-
-// 2 where the mark is that of a qname that declares a prefix, else 1.
-fn counts(mark: u32) -> usize
-    ensures { λ r. ⌜ r ≡ cond (leb declaring mark) 2 1 ⌝ }
-{
-    if marks::DECLARING <= mark { 2 } else { 1 }
-}
-
-// ATTRIBUTE: it closes the one before; one that declares a prefix has no mark.
-fn put_attribute(
-    marks: &[u32; token::QNAME_ROWS],
-    syms: &mut [u32],
-    p: Progress,
-    row: usize,
-) -> Progress
-    requires { ⌜ (1 ≤ row) × (row ≤ 1024) × (p .at + 1 < length (now syms)) ⌝ }
-    ensures { λ r. ⌜ RowPut (unlessOut (p .depth) (closeBy (p .attribute) ++ cond (declaredIn (now (marks .entry)) row) [] ((openingIn (now (marks .entry)) row + 1) ∷ [])))
-        (cond (declaredIn (now (marks .entry)) row) 2 1) (p .depth) (now (syms .entry)) p (now (syms .exit)) r ⌝ }
-{
-    let mark = marks[row - 1];
-    if p.depth == 0 {
-        return with_attribute(p, counts(mark));
-    }
-    let i = put_close(syms, cursor_of(p), p.attribute);
-    if marks::DECLARING <= mark {
-        return with_attribute(moved(p, i), 2);
-    }
-    with_attribute(moved(p, symbols::put_one(syms, i, mark + 1)), 1)
-}
-
-// ENDATTRIBUTES.
-fn end_attributes(syms: &mut [u32], p: Progress) -> Progress
-    requires { ⌜ p .at < length (now syms) ⌝ }
-    ensures { λ r. ⌜ RowPut (unlessOut (p .depth) (closeBy (p .attribute))) 0 (p .depth) (now (syms .entry)) p (now (syms .exit)) r ⌝ }
-{
-    if p.depth == 0 {
-        return with_attribute(p, 0);
-    }
-    with_attribute(moved(p, put_close(syms, cursor_of(p), p.attribute)), 0)
-}
-
 // A CDATA chunk of `units` units.
 fn put_chunk(doc: &[u8], syms: &mut [u32], p: Progress, place: usize, units: usize) -> Progress
     requires { ⌜ (place + 2 * units ≤ length (now doc)) × (p .at + units ≤ length (now syms)) ⌝ }
@@ -195,7 +36,10 @@ fn put_chunk(doc: &[u8], syms: &mut [u32], p: Progress, place: usize, units: usi
         return p;
     }
     let end = place + 2 * units;
-    moved(p, symbols::put_units(&doc[place..end], syms, cursor_of(p)))
+    render_elements::moved(
+        p,
+        symbols::put_units(&doc[place..end], syms, render_elements::cursor_of(p)),
+    )
 }
 
 // XSD-QNAME or another value; nothing for a byte that is no token, nor within a skipped attribute.
@@ -244,9 +88,18 @@ fn put_value(
     if p.attribute == 2 {
         return p;
     }
-    moved(
+    render_elements::moved(
         p,
-        put_valued(alphabet, doc, marks, syms, cursor_of(p), token, a, b),
+        put_valued(
+            alphabet,
+            doc,
+            marks,
+            syms,
+            render_elements::cursor_of(p),
+            token,
+            a,
+            b,
+        ),
     )
 }
 
@@ -270,8 +123,8 @@ fn put_other(
         return put_value(alphabet, doc, marks, syms, p, token, a, b);
     }
     match token {
-        ATTRIBUTE => put_attribute(marks, syms, p, a),
-        ENDATTRIBUTES => end_attributes(syms, p),
+        ATTRIBUTE => render_elements::put_attribute(marks, syms, p, a),
+        ENDATTRIBUTES => render_elements::end_attributes(syms, p),
         CDATA => put_chunk(doc, syms, p, a, b),
         _ => p,
     }
@@ -298,10 +151,10 @@ fn put_row(
         (now (syms .entry)) (now (starts .entry)) (now (hashes .entry)) p (now (syms .exit)) (now (starts .exit)) (now (hashes .exit)) r ⌝ }
 {
     if token == ELEMENT {
-        return open(marks, syms, begin(starts, hashes, p), a);
+        return render_elements::open(marks, syms, render_elements::begin(starts, hashes, p), a);
     }
     if token == ENDELEMENT {
-        return close(syms, p);
+        return render_elements::close(syms, p);
     }
     let b = slices::cell(events, token::EVENT_WIDTH * k + 3);
     put_other(alphabet, doc, marks, syms, p, token, a, b)

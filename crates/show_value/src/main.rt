@@ -7,7 +7,7 @@ fn main() {
     if !console::input_whole(size, 65538) {
         return;
     }
-    let mut text = [0u8; print_value::PRINTED];
+    let mut text = print_value::blank();
     let from = print_value::print(&input[..size], &mut text);
     console::write_output(&text[from..]);
 }

@@ -1,5 +1,5 @@
 -- `render::put_chunk` meets its contract. Assumes nothing.
-use Rattle.render.proofs.Rows.{row-as, row-hashed, out-row, out-in, span, part-few}
+use Rattle.render_elements.proofs.Rows.{row-as, row-hashed, out-row, out-in, span, part-few}
 use Rattle.symbols.proofs.Texts.{units-long}
 use mathlib.Core.Path.{refl, ap}
 use native.Mathlib.Omega.{arith}

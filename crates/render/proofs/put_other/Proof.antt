@@ -1,5 +1,5 @@
 -- `render::put_other` meets its contract: one way for each token. Assumes nothing.
-use Rattle.render.proofs.Rows.{row-as, row-none, row-value, row-F6, row-F5, row-F2, row-silent, attribute-F6, attribute-F5, attribute-stays, depth-same, low-apart, apart, room-chunk}
+use Rattle.render_elements.proofs.Rows.{row-as, row-none, row-value, row-F6, row-F5, row-F2, row-silent, attribute-F6, attribute-F5, attribute-stays, depth-same, low-apart, apart, room-chunk}
 use mathlib.Core.Path.{refl}
 use native.Mathlib.Omega.{arith}
 use borrow.Author.Needs.{needs}

@@ -1,5 +1,5 @@
 -- `render::put_row` meets its contract. Assumes nothing.
-use Rattle.render.proofs.Rows.{row-as, row-F7, attribute-stays, depth-less, apart, done-open, done-inner}
+use Rattle.render_elements.proofs.Rows.{row-as, row-F7, attribute-stays, depth-less, apart, done-open, done-inner}
 use native.Mathlib.Omega.{arith}
 use borrow.Author.Needs.{needs}
 use Rattle.render.proofs.put_row.Statement.{statement}

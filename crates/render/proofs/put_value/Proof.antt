@@ -1,5 +1,5 @@
 -- `render::put_value` meets its contract: nothing outside of a record nor within a skipped attribute. Assumes nothing.
-use Rattle.render.proofs.Rows.{row-as, row-none, row-hashed, out-row, out-in, value-skipped, value-counted}
+use Rattle.render_elements.proofs.Rows.{row-as, row-none, row-hashed, out-row, out-in, value-skipped, value-counted}
 use mathlib.Core.Path.{refl}
 use borrow.Author.Needs.{needs}
 use Rattle.render.proofs.put_value.Statement.{statement}

@@ -1,5 +1,5 @@
 -- `render::put_valued` meets its contract. Assumes nothing.
-use Rattle.render.proofs.Rows.{is-value, room-value, span, part-few, counted-qname, counted-zero, counted-value}
+use Rattle.render_elements.proofs.Rows.{is-value, room-value, span, part-few, counted-qname, counted-zero, counted-value}
 use Rattle.symbols.proofs.Going.{hashed-as, hashed-none}
 use mathlib.Core.Path.{refl}
 use native.Mathlib.Omega.{arith}

@@ -1,7 +1,7 @@
--- `render::counts` meets its contract: by the mark's highest bit. Assumes nothing.
+-- `render_elements::counts` meets its contract: by the mark's highest bit. Assumes nothing.
 use borrow.Author.Tests.{le-leb, lt-leb}
-use Rattle.render.proofs.counts.Statement.{statement}
-use Rattle.render.proofs.counts.Tie as tie
+use Rattle.render_elements.proofs.counts.Statement.{statement}
+use Rattle.render_elements.proofs.counts.Tie as tie
 
 returns : tie.Need-returns
 returns c = rw (le-leb 2147483648 (c .before .args .mark) (c .if1 .taken))

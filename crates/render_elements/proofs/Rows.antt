@@ -12,12 +12,12 @@ use Rattle.plan.specs.Text.{textOf}
 use Rattle.meaning.specs.Codes.{mark}
 use Rattle.hash.specs.Hash.{hashFrom, seed}
 use Rattle.symbols.specs.declared.Cursor.{Cursor}
-use Rattle.render.specs.declared.Progress.{Progress}
+use Rattle.render_elements.specs.declared.Progress.{Progress}
 use Rattle.symbols.specs.Store.{PutHashed}
-use Rattle.render.specs.Codes.{isValue, closeBy, countedBy, valueBy, codesBy, unlessOut, rowBy, depthBy, attributeBy, roomBy}
+use Rattle.render_elements.specs.Codes.{isValue, closeBy, countedBy, valueBy, codesBy, unlessOut, rowBy, depthBy, attributeBy, roomBy}
 use Rattle.symbols.specs.Values.{valueCodes}
 use Rattle.marks.specs.Marks.{openingIn, declaredIn}
-use Rattle.render.specs.Effects.{cursorOf, Begun, RowPut, RowDone}
+use Rattle.render_elements.specs.Effects.{cursorOf, Begun, RowPut, RowDone}
 use Rattle.symbols.proofs.Going.{put-none, put-as, put-set}
 
 -- ---- rooms

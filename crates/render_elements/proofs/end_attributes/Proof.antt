@@ -1,11 +1,11 @@
--- `render::end_attributes` meets its contract. Assumes nothing.
-use Rattle.render.proofs.Rows.{row-as, row-hashed, out-row, out-in}
+-- `render_elements::end_attributes` meets its contract. Assumes nothing.
+use Rattle.render_elements.proofs.Rows.{row-as, row-hashed, out-row, out-in}
 use mathlib.Core.Path.{refl, ap, _∙_}
-use Rattle.render.specs.Effects.{attributed}
-use Rattle.render.specs.declared.Progress.{Progress}
+use Rattle.render_elements.specs.Effects.{attributed}
+use Rattle.render_elements.specs.declared.Progress.{Progress}
 use borrow.Author.Needs.{needs}
-use Rattle.render.proofs.end_attributes.Statement.{statement}
-use Rattle.render.proofs.end_attributes.Tie as tie
+use Rattle.render_elements.proofs.end_attributes.Statement.{statement}
+use Rattle.render_elements.proofs.end_attributes.Tie as tie
 
 returns : tie.Need-returns
 returns c = out-row _ _ _ _ _ _ (c .before .if1 .taken) (c .with-attribute .ensures)

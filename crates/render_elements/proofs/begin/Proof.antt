@@ -1,8 +1,8 @@
--- `render::begin` meets its contract: a record begins where no element is open. Assumes nothing.
-use Rattle.render.proofs.Rows.{begun-deep, begun-here}
+-- `render_elements::begin` meets its contract: a record begins where no element is open. Assumes nothing.
+use Rattle.render_elements.proofs.Rows.{begun-deep, begun-here}
 use borrow.Author.Needs.{needs}
-use Rattle.render.proofs.begin.Statement.{statement}
-use Rattle.render.proofs.begin.Tie as tie
+use Rattle.render_elements.proofs.begin.Statement.{statement}
+use Rattle.render_elements.proofs.begin.Tie as tie
 
 returns : tie.Need-returns
 returns c = begun-deep _ _ _ (c .if1 .taken)

@@ -6,9 +6,9 @@ use mathlib.Core.List.{List, [], _∷_}
 use lib.Dec.{eqb}
 use Rattle.hash.specs.Hash.{hashFrom, seed}
 use Rattle.symbols.specs.declared.Cursor.{Cursor}
-use Rattle.render.specs.declared.Progress.{Progress}
+use Rattle.render_elements.specs.declared.Progress.{Progress}
 use Rattle.symbols.specs.Store.{NumbersPut}
-use Rattle.render.specs.Codes.{rowBy, beginsBy, depthBy, attributeBy}
+use Rattle.render_elements.specs.Codes.{rowBy, beginsBy, depthBy, attributeBy}
 
 abbrev pub cursorOf : Progress → Cursor
 cursorOf p = record { at = p .at; hash = p .hash }

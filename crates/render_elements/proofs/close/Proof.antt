@@ -1,9 +1,9 @@
--- `render::close` meets its contract: outside of a record nothing is written. Assumes nothing.
-use Rattle.render.proofs.Rows.{row-as, row-hashed, out-in, close-out, end-mark}
+-- `render_elements::close` meets its contract: outside of a record nothing is written. Assumes nothing.
+use Rattle.render_elements.proofs.Rows.{row-as, row-hashed, out-in, close-out, end-mark}
 use mathlib.Core.Path.{refl}
 use borrow.Author.Needs.{needs}
-use Rattle.render.proofs.close.Statement.{statement}
-use Rattle.render.proofs.close.Tie as tie
+use Rattle.render_elements.proofs.close.Statement.{statement}
+use Rattle.render_elements.proofs.close.Tie as tie
 
 returns : tie.Need-returns
 returns c = close-out _ _ _ (c .if1 .taken)

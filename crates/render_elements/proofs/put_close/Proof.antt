@@ -1,9 +1,9 @@
--- `render::put_close` meets its contract. Assumes nothing.
+-- `render_elements::put_close` meets its contract. Assumes nothing.
 use Rattle.symbols.proofs.Going.{hashed-as, hashed-none}
-use Rattle.render.proofs.Rows.{close-one, close-none}
+use Rattle.render_elements.proofs.Rows.{close-one, close-none}
 use borrow.Author.Needs.{needs}
-use Rattle.render.proofs.put_close.Statement.{statement}
-use Rattle.render.proofs.put_close.Tie as tie
+use Rattle.render_elements.proofs.put_close.Statement.{statement}
+use Rattle.render_elements.proofs.put_close.Tie as tie
 
 returns : tie.Need-returns
 returns c = hashed-as (close-one _ (c .before .before .before .before .if1 .taken)) (c .before .before .put-one .ensures)

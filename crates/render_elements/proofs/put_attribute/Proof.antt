@@ -1,14 +1,14 @@
--- `render::put_attribute` meets its contract: one way outside of a record, one for an attribute that declares a prefix, one for any other. Assumes nothing.
-use Rattle.render.proofs.Rows.{row-as, row-hashed, out-row, out-in, declared-number, declared-two, declared-bare, counted-one, counted-mark, close-few}
+-- `render_elements::put_attribute` meets its contract: one way outside of a record, one for an attribute that declares a prefix, one for any other. Assumes nothing.
+use Rattle.render_elements.proofs.Rows.{row-as, row-hashed, out-row, out-in, declared-number, declared-two, declared-bare, counted-one, counted-mark, close-few}
 use Rattle.symbols.proofs.Going.{hashed-then, put-long}
 use mathlib.Core.Path.{refl, ap, _∙_}
-use Rattle.render.specs.Effects.{attributed}
-use Rattle.render.specs.declared.Progress.{Progress}
-use Rattle.render.specs.Codes.{closeBy}
+use Rattle.render_elements.specs.Effects.{attributed}
+use Rattle.render_elements.specs.declared.Progress.{Progress}
+use Rattle.render_elements.specs.Codes.{closeBy}
 use native.Mathlib.Omega.{arith}
 use borrow.Author.Needs.{needs}
-use Rattle.render.proofs.put_attribute.Statement.{statement}
-use Rattle.render.proofs.put_attribute.Tie as tie
+use Rattle.render_elements.proofs.put_attribute.Statement.{statement}
+use Rattle.render_elements.proofs.put_attribute.Tie as tie
 
 returns : tie.Need-returns
 returns c = row-as refl (declared-number (c .before .before .before .before .before .before .args .marks .now) (c .before .before .before .before .before .before .args .row) _ refl _ (c .before .counts .ensures)) refl (out-row _ _ _ _ _ _ (c .before .before .if1 .taken) (c .with-attribute .ensures))

@@ -1,9 +1,9 @@
--- `render::open` meets its contract. Assumes nothing.
-use Rattle.render.proofs.Rows.{row-as, row-hashed, opened-is}
+-- `render_elements::open` meets its contract. Assumes nothing.
+use Rattle.render_elements.proofs.Rows.{row-as, row-hashed, opened-is}
 use mathlib.Core.Path.{refl}
 use borrow.Author.Needs.{needs}
-use Rattle.render.proofs.open.Statement.{statement}
-use Rattle.render.proofs.open.Tie as tie
+use Rattle.render_elements.proofs.open.Statement.{statement}
+use Rattle.render_elements.proofs.open.Tie as tie
 
 put-one-requires : tie.Need-put-one-requires
 put-one-requires c κs = rw (c .cursor-of .ensures) (c .before .before .before .before .pre .2)
