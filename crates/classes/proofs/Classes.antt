@@ -8,10 +8,9 @@ use mathlib.Core.List.{List, [], _∷_, map}
 use native.Mathlib.Omega.{arith}
 use lib.ListN.{length, getD, getElem?, length-map}
 use Rattle.sequences.specs.Lists.{same}
-use Rattle.machine.specs.Rows.{NameRow, QnameRow}
-use Rattle.machine.specs.Events.{nameText}
+use Rattle.machine.specs.Machine.{NameRow, QnameRow, nameText}
 use Rattle.machine.proofs.Tables.{at-inside, at-getD, at-some, at-map}
-use Rattle.form.specs.Places.{Triple, sameTriple, place, numberOf, qnumberOf}
+use Rattle.form.specs.Canonical.{Triple, sameTriple, place, numberOf, qnumberOf}
 use Rattle.form.proofs.Places.{Tells, tells-text, tells-triple, place-at, place-found}
 use Rattle.classes.specs.Classes.{rowText, textsOf, nameClasses, tripleOf, triplesOf, qnameClasses}
 

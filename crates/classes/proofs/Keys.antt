@@ -5,7 +5,7 @@ use mathlib.Core.List.{List}
 use native.Mathlib.Omega.{arith}
 use lib.ListN.{getD}
 use Rattle.classes.specs.Search.{classAt, keyOf, Keyable, keyAt}
-use Rattle.token.specs.Answers.{qnameWidth}
+use Rattle.token.specs.Tokens.{qnameWidth}
 
 -- a key tells its three classes
 pub key-apart : (a b c a′ b′ c′ : ℕ) → a ≤ 1024 → b ≤ 1024 → c ≤ 1024 → a′ ≤ 1024 → b′ ≤ 1024 → c′ ≤ 1024

@@ -3,9 +3,8 @@
 use Prim.Native.Nat.{ℕ, _+_, _*_, _%_}
 use mathlib.Core.List.{List, [], _∷_, map}
 use Rattle.sequences.specs.Lists.{part}
-use Rattle.machine.specs.Rows.{NameRow, QnameRow}
-use Rattle.machine.specs.Events.{nameText}
-use Rattle.form.specs.Places.{Triple, triple, numberOf, qnumberOf}
+use Rattle.machine.specs.Machine.{NameRow, QnameRow, nameText}
+use Rattle.form.specs.Canonical.{Triple, triple, numberOf, qnumberOf}
 
 -- the texts of rows of names
 abbrev pub rowText : List ℕ → NameRow → List ℕ

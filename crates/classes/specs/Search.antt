@@ -4,9 +4,9 @@ use Prim.Native.Nat.{ℕ, zero, suc, _+_, _*_, _%_, _≤_, _<_}
 use mathlib.Core.Path.{_≡_}
 use mathlib.Core.List.{List}
 use lib.ListN.{getD}
-use Rattle.machine.specs.Rows.{NameRow, nameRow}
+use Rattle.machine.specs.Machine.{NameRow, nameRow}
 use Rattle.classes.specs.Classes.{rowText, textHash}
-use Rattle.token.specs.Answers.{nameWidth, qnameWidth}
+use Rattle.token.specs.Tokens.{nameWidth, qnameWidth}
 
 -- row k of a table of names, from 0, and its text
 abbrev pub nameAt : List ℕ → ℕ → NameRow

@@ -8,8 +8,7 @@ use lib.ListN.{length, getD}
 use lib.Seq.{drop-cons}
 use Rattle.sequences.proofs.Overlay.{part-length}
 use Rattle.sequences.proofs.Tests.{tests}
-use Rattle.token.specs.Answers.{openElements, largest}
-use Rattle.token.specs.Tokens.{classOf, shapeOf}
+use Rattle.token.specs.Tokens.{openElements, largest, classOf, shapeOf}
 use Rattle.token.specs.Fixed.{fixedOf}
 use Rattle.token.specs.declared.Class.{Class}
 use Rattle.token.specs.declared.Class.the-variants as class
@@ -21,7 +20,7 @@ use Rattle.rules.specs.Rules.{lawful}
 use Rattle.value.specs.Fields.{extentAt, fieldAt}
 use Rattle.value.specs.declared.Field.the-variants as field
 use Rattle.value.proofs.Fields.{needed-there}
-use Rattle.fields.specs.References.{qnameAt}
+use Rattle.fields.specs.Fields.{qnameAt}
 use Rattle.fields.specs.declared.Qname.the-variants as qname
 use Rattle.fields.proofs.References.{qname-known, qname-on}
 use Rattle.modes.specs.Modes.{content, allowed, afterValue}

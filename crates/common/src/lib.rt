@@ -2,7 +2,7 @@
 ghost use mathlib.Core.Path.{_≡_};
 ghost use lib.ListN.{getD};
 ghost use Rattle.token.specs.Entries.{Listed};
-ghost use Rattle.token.specs.Codes.{ELEMENT-TOKEN};
+ghost use Rattle.token.specs.Tokens.{ELEMENT-TOKEN};
 ghost use Rattle.scan.specs.Steps.{stepAt};
 ghost use Rattle.common.specs.Common.{commonStep, Ready};
 ghost use Prim.Native.Nat.{_<_};

@@ -8,8 +8,8 @@ use lib.Dec.{ltb, leb, eqb}
 use lib.ListN.{length, getD}
 use borrow.Author.Tests.{ltb-true, leb-true}
 use Rattle.sequences.proofs.Tests.{tests, cond-if, and-left, and-right}
-use Rattle.token.specs.Answers.{accepted, missing, badHeader}
-use Rattle.fields.specs.Headers.{headerJudged, headerAt}
+use Rattle.token.specs.Tokens.{accepted, missing, badHeader}
+use Rattle.fields.specs.Fields.{headerJudged, headerAt}
 use Rattle.fields.specs.Bounds.{HeaderWithin}
 use Rattle.fields.specs.Faults.{refusedBy, Judges}
 use Rattle.fields.specs.declared.Header.{Header}

@@ -8,13 +8,13 @@ use lib.Dec.{leb}
 use lib.ListN.{length}
 use borrow.Author.Tests.{leb-true}
 use Rattle.sequences.proofs.Tests.{tests, cond-if, and-left, and-right}
-use Rattle.token.specs.Answers.{notDefined}
+use Rattle.token.specs.Tokens.{notDefined}
 use Rattle.number.specs.Number.{numberAt}
 use Rattle.number.specs.Bounds.{Within}
 use Rattle.number.specs.declared.Number.{Number}
 use Rattle.number.specs.declared.Number.the-variants as number
 use Rattle.number.proofs.Within.{number-within}
-use Rattle.fields.specs.References.{nameAfter, nameAt, qnameAfter, qnameAt}
+use Rattle.fields.specs.Fields.{nameAfter, nameAt, qnameAfter, qnameAt}
 use Rattle.fields.specs.Bounds.{NameWithin, QnameWithin}
 use Rattle.fields.specs.declared.Name.the-variants as name
 use Rattle.fields.specs.declared.Qname.the-variants as qname

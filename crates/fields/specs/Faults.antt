@@ -5,8 +5,8 @@ use mathlib.Core.Bool.{cond}
 use mathlib.Core.List.{List}
 use lib.Dec.{eqb}
 use lib.ListN.{length, getD}
-use Rattle.token.specs.Answers.{missing, badHeader}
-use Rattle.fields.specs.Headers.{headerJudged}
+use Rattle.token.specs.Tokens.{missing, badHeader}
+use Rattle.fields.specs.Fields.{headerJudged}
 use Rattle.fields.specs.declared.Header.{Header}
 use Rattle.fields.specs.declared.Header.the-variants.{Refused}
 

@@ -1,4 +1,3 @@
-pub mod References
-pub mod Headers
+pub mod Fields
 pub mod Faults
 pub mod Bounds

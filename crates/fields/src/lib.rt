@@ -3,9 +3,8 @@
 ghost use mathlib.Core.Path.{_≡_};
 ghost use Prim.Native.Nat.{_<_};
 ghost use lib.ListN.{length};
-ghost use Rattle.fields.specs.References.{nameAt, qnameAt};
+ghost use Rattle.fields.specs.Fields.{nameAt, qnameAt, headerAt};
 ghost use Rattle.fields.specs.Bounds.{NameWithin, QnameWithin, HeaderWithin};
-ghost use Rattle.fields.specs.Headers.{headerAt};
 ghost use Rattle.fields.specs.Faults.{Judges, refusedBy};
 use number::Number;
 use token::NameNumber;

@@ -7,17 +7,14 @@ use native.Mathlib.Omega.{arith}
 use lib.ListN.{length, length-append}
 use Rattle.sequences.specs.Lists.{overlay}
 use Rattle.scan.specs.declared.Room.{Room}
-use Rattle.machine.specs.Rows.{flatNames, flatQnames, flatEvents}
-use Rattle.machine.specs.Machine.{Result, reading}
-use Rattle.machine.specs.Events.{eventsOf}
-use Rattle.machine.specs.Contract.{roomIn, Reads}
+use Rattle.machine.specs.Machine.{flatNames, flatQnames, flatEvents, Result, reading, eventsOf, roomIn, Reads}
 use Rattle.machine.specs.Tables.{nameRowsIn, qnameRowsIn, eventRowsIn, eventsIn, Filled}
 use Rattle.machine.specs.declared.Answer as reader-answer
 use Rattle.machine.proofs.Facts.{rows-fit}
 use Rattle.machine.proofs.Rows.{length-names, length-qnames, length-events}
 use Rattle.machine.proofs.Tables.{name-rows-back, qname-rows-back, event-rows-back}
 use Rattle.filled.proofs.Rooms.{rows-few, stops-inside, accepted-short}
-use Rattle.token.specs.Answers.{nameWidth, qnameWidth, eventWidth}
+use Rattle.token.specs.Tokens.{nameWidth, qnameWidth, eventWidth}
 
 -- a table holds what was laid over its front
 front-long : (front l : List ℕ) → length front ≤ length (overlay front l)

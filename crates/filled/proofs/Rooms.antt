@@ -7,7 +7,7 @@ use native.Mathlib.Omega.{arith}
 use lib.Dec.{ltb}
 use lib.ListN.{length, length-append}
 use borrow.Author.Tests.{ltb-true, ltb-false}
-use Rattle.token.specs.Answers.{longest}
+use Rattle.token.specs.Tokens.{longest}
 use Rattle.scan.specs.Bounds.{Fine}
 use Rattle.scan.specs.declared.Room.{Room}
 use Rattle.scan.specs.declared.Step.{Step}
@@ -18,8 +18,7 @@ use Rattle.machine.proofs.Goes.{Goes}
 use Rattle.machine.proofs.Trace.{kept}
 use Rattle.machine.proofs.Readings.{by-reading}
 use Rattle.machine.proofs.Whole.{too-long}
-use Rattle.grammar.specs.Points.{Point}
-use Rattle.grammar.specs.Grammar.{Depth, Document, document}
+use Rattle.grammar.specs.Grammar.{Point, Depth, Document, document}
 use Rattle.grammar.proofs.Steps.{Fits}
 use Rattle.grammar.proofs.Exact.{accepted-derives}
 

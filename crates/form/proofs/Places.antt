@@ -11,7 +11,7 @@ use borrow.Author.Tests.{eqb-true, eqb-false, eq-eqb, ne-eqb}
 use Rattle.sequences.specs.Lists.{same}
 use Rattle.sequences.proofs.Tests.{and-left, and-right, cond-if}
 use Rattle.sequences.proofs.Same.{same-true, same-itself}
-use Rattle.form.specs.Places.{triple, sameTriple, place, absent}
+use Rattle.form.specs.Canonical.{triple, sameTriple, place, absent}
 
 -- a test of equality
 pub record Tells {A : Type 0} (same : A → A → Bool) : Type 0 where

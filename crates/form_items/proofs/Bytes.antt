@@ -13,7 +13,7 @@ use Rattle.value.specs.Fields.{textAt}
 use Rattle.value.specs.Bounds.{Lies}
 use Rattle.value.specs.declared.Text as texts
 use Rattle.value.specs.declared.Text.the-variants as text
-use Rattle.machine.specs.Events.{dataIn}
+use Rattle.machine.specs.Machine.{dataIn}
 use Rattle.machine.specs.Tables.{NamesInside}
 use Rattle.form.specs.Canonical.{withUnits, lengthOf}
 use Rattle.form_output.specs.Output.{Fits, Put}

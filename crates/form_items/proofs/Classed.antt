@@ -10,7 +10,7 @@ use Rattle.token.proofs.Class.{the-type}
 use Rattle.token.specs.Tokens.{classOf}
 use Rattle.token.specs.declared.Class.{Class}
 use Rattle.token.specs.declared.Class.the-variants as class
-use Rattle.machine.specs.Rows.{EventRow, event}
+use Rattle.machine.specs.Machine.{EventRow, event}
 use Rattle.form_items.specs.declared.Item.{Item}
 use Rattle.form_items.specs.declared.Item.the-variants.{Byte, Texted, Refer}
 use Rattle.form_items.specs.Items.{itemBy, itemOf}

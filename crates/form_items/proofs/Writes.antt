@@ -5,8 +5,7 @@ use mathlib.Core.List.{List, [], _∷_, _++_}
 use native.Mathlib.Omega.{arith}
 use lib.ListN.{length, getD}
 use Rattle.sequences.specs.Lists.{part}
-use Rattle.token.specs.Tokens.{shapeOf}
-use Rattle.token.specs.Answers.{qnameWidth}
+use Rattle.token.specs.Tokens.{shapeOf, qnameWidth}
 use Rattle.number.specs.Number.{shortest}
 use Rattle.machine.specs.Tables.{NamesInside}
 use Rattle.form.specs.Canonical.{withUnits, lengthOf, headerOf}

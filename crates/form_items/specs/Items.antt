@@ -1,11 +1,10 @@
 -- Serves the code. What a row of events asks of the walk, by its token's class.
 use mathlib.Core.Bool.{cond}
 use lib.Dec.{eqb}
-use Rattle.token.specs.Tokens.{classOf}
+use Rattle.token.specs.Tokens.{classOf, XSD-QNAME}
 use Rattle.token.specs.declared.Class.{Class}
 use Rattle.token.specs.declared.Class.the-variants as class
-use Rattle.token.specs.Codes.{XSD-QNAME}
-use Rattle.machine.specs.Rows.{EventRow}
+use Rattle.machine.specs.Machine.{EventRow}
 use Rattle.form_items.specs.declared.Item.{Item}
 use Rattle.form_items.specs.declared.Item.the-variants.{Byte, Texted, Pi, Refer, Valued, Nest, Leave}
 

@@ -7,14 +7,11 @@ use mathlib.Core.List.{List, [], _∷_, _++_}
 use mathlib.Core.Option.{some}
 use lib.ListN.{length, getD}
 use Rattle.sequences.specs.Lists.{Front, part}
-use Rattle.token.specs.Tokens.{shapeOf}
-use Rattle.token.specs.Codes.{PI-TOKEN, NEST-TOKEN, ENDNEST-TOKEN}
-use Rattle.token.specs.Answers.{qnameWidth, eventWidth}
+use Rattle.token.specs.Tokens.{shapeOf, PI-TOKEN, NEST-TOKEN, ENDNEST-TOKEN, qnameWidth, eventWidth}
 use Rattle.number.specs.Number.{shortest}
 use Rattle.value.specs.Fields.{textAt}
 use Rattle.value.specs.declared.Text.the-variants as text
-use Rattle.machine.specs.Rows.{event}
-use Rattle.machine.specs.Events.{dataIn}
+use Rattle.machine.specs.Machine.{event, dataIn}
 use Rattle.machine.specs.Balance.{nothingOpen, check}
 use Rattle.machine.specs.Tables.{nameRowsIn, qnameRowsIn, eventRowsIn, Filled, NamesInside}
 use Rattle.classes.specs.Classes.{nameClasses, qnameClasses}

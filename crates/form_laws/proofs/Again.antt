@@ -9,8 +9,7 @@ use lib.Dec.{ltb}
 use lib.ListN.{length, getD, length-append}
 use borrow.Author.Tests.{ltb-true, eqb-true}
 use Rattle.sequences.proofs.Tests.{and-left, and-right}
-use Rattle.token.specs.Answers.{longest}
-use Rattle.token.specs.Tokens.{classOf}
+use Rattle.token.specs.Tokens.{longest, classOf}
 use Rattle.token.specs.declared.Class.{Class}
 use Rattle.token.specs.declared.Class.the-variants as class
 use Rattle.value.specs.Fields.{textAt}
@@ -22,10 +21,8 @@ use Rattle.modes.specs.declared.Mode.the-variants as mode
 use Rattle.scan.specs.declared.Room.{Room}
 use Rattle.scan.specs.declared.Step.{Step}
 use Rattle.scan.specs.declared.Step.the-variants as step
-use Rattle.machine.specs.Rows.{NameRow, QnameRow, EventRow, event}
-use Rattle.machine.specs.Machine.{Scope, State, view, rowOf, apply, returned}
+use Rattle.machine.specs.Machine.{NameRow, QnameRow, EventRow, event, Scope, State, view, rowOf, apply, returned, nameText, eventOf}
 use Rattle.machine.specs.Machine as machine
-use Rattle.machine.specs.Events.{nameText, eventOf}
 use Rattle.machine.proofs.Goes.{Goes}
 use Rattle.machine.proofs.Trace as traces
 use Rattle.machine.proofs.Trace.{Trace}
@@ -36,9 +33,7 @@ use Rattle.machine.proofs.Facts.{qname-code}
 use Rattle.machine.proofs.Found as found
 use Rattle.machine.proofs.Found.{Found, Stands, TextLeads, found-step}
 use Rattle.form.specs.Canonical.{body}
-use Rattle.grammar.specs.Atomic.{XSD-QNAME}
-use Rattle.grammar.specs.Points.{Point}
-use Rattle.grammar.specs.Grammar.{qname-value}
+use Rattle.grammar.specs.Grammar.{XSD-QNAME, Point, qname-value}
 use Rattle.grammar.proofs.Leaves.{name-found, qname-found, header-found}
 use Rattle.grammar.proofs.Sound.{pointOf}
 use Rattle.grammar.proofs.Steps.{stateOf, look, stay, texted, encoding, value, attribute, end-attributes, cdata-end, opens, closes}

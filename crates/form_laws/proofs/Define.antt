@@ -8,18 +8,14 @@ use native.Mathlib.Numerals.{add-one}
 use native.Mathlib.Omega.{arith}
 use lib.ListN.{length, getD, drop, length-append}
 use Rattle.sequences.specs.Lists.{same}
-use Rattle.token.specs.Answers.{largest}
+use Rattle.token.specs.Tokens.{largest}
 use Rattle.modes.specs.Modes.{content, listing, inDeclaration, afterMetadata}
 use Rattle.modes.specs.declared.Mode.{Mode}
 use Rattle.scan.specs.declared.Room.{Room}
-use Rattle.machine.specs.Rows.{NameRow, QnameRow, nameRow, qnameRow}
-use Rattle.machine.specs.Machine.{State, rowOf}
-use Rattle.machine.specs.Events.{nameText}
-use Rattle.form.specs.Places.{Triple, triple, sameTriple, place, absent, fresh, numberOf, grownIf, grown}
-use Rattle.form.specs.Canonical.{withUnits, defined, Scopes, scopes, definition, withTexts, definitions, qnameBytes, qnameDefinition, withQname}
+use Rattle.machine.specs.Machine.{NameRow, QnameRow, nameRow, qnameRow, State, rowOf, nameText}
+use Rattle.form.specs.Canonical.{Triple, triple, sameTriple, place, absent, fresh, numberOf, grownIf, grown, withUnits, defined, Scopes, scopes, definition, withTexts, definitions, qnameBytes, qnameDefinition, withQname}
 use Rattle.form.proofs.Places.{tells-text, tells-triple}
-use Rattle.grammar.specs.Points.{named, qnamed}
-use Rattle.grammar.specs.Grammar.{a-namedef, namedef, a-qnamedef, qnamedef}
+use Rattle.grammar.specs.Grammar.{named, qnamed, a-namedef, namedef, a-qnamedef, qnamedef}
 use Rattle.grammar.proofs.Leaves.{number-found}
 use Rattle.grammar.proofs.Sound.{pointOf}
 use Rattle.grammar.proofs.Steps.{stateOf, Reach, stay, metadata, _⨾_}

@@ -7,8 +7,7 @@ use mathlib.Core.List.{List, [], _∷_, _++_, map, append-assoc}
 use native.Mathlib.Omega.{arith}
 use lib.Dec.{eqb}
 use lib.ListN.{length, drop, length-append}
-use Rattle.sequences.specs.Lists.{part}
-use Rattle.sequences.specs.Members.{In, here}
+use Rattle.sequences.specs.Lists.{part, In, here}
 use Rattle.sequences.proofs.Overlay.{part-length}
 use Rattle.number.specs.Number.{shortest}
 use Rattle.value.specs.Fields.{textAt}
@@ -17,16 +16,10 @@ use Rattle.value.proofs.Fields.{text-lies, is-lies}
 use Rattle.modes.specs.Modes.{content}
 use Rattle.modes.specs.declared.Mode.{Mode}
 use Rattle.scan.specs.declared.Room.{Room}
-use Rattle.machine.specs.Rows.{NameRow, QnameRow, EventRow, event}
-use Rattle.machine.specs.Machine.{scope, State, rowOf}
+use Rattle.machine.specs.Machine.{NameRow, QnameRow, EventRow, event, scope, State, rowOf, Event, plain, nameText, qnameEvent, eventOf}
 use Rattle.machine.specs.Machine as machine
-use Rattle.machine.specs.Events.{Event, plain, nameText, qnameEvent, eventOf}
-use Rattle.machine.specs.Events as events
-use Rattle.form.specs.Places.{Triple, sameTriple, place, qnumberOf}
-use Rattle.form.specs.Canonical.{withUnits, Scopes, emit, scopesAfter, body, qnameDefinition}
-use Rattle.grammar.specs.Fields.{Byte}
-use Rattle.grammar.specs.Points.{Point, evented, ended, referred}
-use Rattle.grammar.specs.Grammar.{TextToken, texttoken, Qname}
+use Rattle.form.specs.Canonical.{Triple, sameTriple, place, qnumberOf, withUnits, Scopes, emit, scopesAfter, body, qnameDefinition}
+use Rattle.grammar.specs.Grammar.{Byte, Point, evented, ended, referred, TextToken, texttoken, Qname}
 use Rattle.grammar.proofs.Leaves.{number-found}
 use Rattle.grammar.proofs.Sound.{pointOf}
 use Rattle.grammar.proofs.Steps.{stateOf, _⨾_}
@@ -52,7 +45,7 @@ known-row known (suc k) l h = in-getD known k (omega arith)
 
 -- a token's rows are told by its texts
 abbrev pub TextTold : ℕ → Type 0
-TextTold k = (doc : List ℕ) (names : List NameRow) (qnames : List QnameRow) (at a b : ℕ) → eventOf doc names qnames (event k at a b) ≡ events.texted k (part doc a (2 * b))
+TextTold k = (doc : List ℕ) (names : List NameRow) (qnames : List QnameRow) (at a b : ℕ) → eventOf doc names qnames (event k at a b) ≡ machine.texted k (part doc a (2 * b))
 
 abbrev pub QnameTold : ℕ → Type 0
 QnameTold k = (doc : List ℕ) (names : List NameRow) (qnames : List QnameRow) (at a b : ℕ) → eventOf doc names qnames (event k at a b) ≡ qnameEvent doc names qnames k a
@@ -154,13 +147,13 @@ module _ (d : List ℕ) (N : List NameRow) (Q : List QnameRow) (d′ : List ℕ)
       → Next (machine.onward s (event token (s .at) place units) m (s .here) (place + 2 * units)) rs → Next s (event token (s .at) place units ∷ rs)
   on-text {s} {rs} k {token} {place} {units} {m} to i says e modes walk go s′ σ G o S =
       let r : EventRow = event token (s .at) place units in
-      let h : tell r ≡ events.texted k (part d place (2 * units)) = rw i (says d N Q (s .at) place units) in
+      let h : tell r ≡ machine.texted k (part d place (2 * units)) = rw i (says d N Q (s .at) place units) in
       let t = part d place (2 * units) in
       let left : drop (s′ .at) d′ ≡ k ∷ (withUnits t ++ body σ (map tell rs)) = told rs r h S in
       let b = drop-byte d′ (s′ .at) left in
       let x = text-at d′ (s′ .at + 1) t (body σ (map tell rs)) (text-fit d (s .at + 1) e) (b .1) in
       on-event r (event k (s′ .at) (x .place) (length t / 2)) m (to (s′ .mode)) (s .here .elements) (s′ .here .elements) (place + 2 * units) (x .place + 2 * (length t / 2)) S (S .here .elements)
-      (modes (s′ .mode) o) (sym i) (λ M P y. says d′ M P (s′ .at) (x .place) (length t / 2) ∙ ap (events.texted k) (x .is) ∙ sym h)
+      (modes (s′ .mode) o) (sym i) (λ M P y. says d′ M P (s′ .at) (x .place) (length t / 2) ∙ ap (machine.texted k) (x .is) ∙ sym h)
       (walk s′ _ o (texttoken (b .0) (x .read))) (x .after) go
 
   -- ---- a token with nothing after it
@@ -195,8 +188,8 @@ module _ (d : List ℕ) (N : List NameRow) (Q : List QnameRow) (d′ : List ℕ)
       let p = S .here .parts row in-mine in
       let q : Triple = p .says in
       let r : EventRow = event token (s .at) row 0 in
-      let h : tell r ≡ events.qnamed k (q .uri) (q .prefix) (q .local) = rw i (says d N Q (s .at) row 0 ∙ qname-says d N Q k row (p .is)) in
-      let σ′ = scopesAfter σ (events.qnamed k (q .uri) (q .prefix) (q .local)) in
+      let h : tell r ≡ machine.qnamed k (q .uri) (q .prefix) (q .local) = rw i (says d N Q (s .at) row 0 ∙ qname-says d N Q k row (p .is)) in
+      let σ′ = scopesAfter σ (machine.qnamed k (q .uri) (q .prefix) (q .local)) in
       let j = place sameTriple (σ .here .qnames) q in
       let left : drop (s′ .at) d′ ≡ qnameDefinition (σ .here) q ++ (k ∷ (shortest (suc j) ++ body σ′ (map tell rs))) =
       told rs r h S ∙ append-assoc (qnameDefinition (σ .here) q) (k ∷ shortest (suc j)) (body σ′ (map tell rs)) in

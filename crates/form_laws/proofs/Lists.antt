@@ -8,10 +8,9 @@ use native.Mathlib.Numerals.{add-one}
 use native.Mathlib.Omega.{arith}
 use lib.ListN.{length, getElem?, getD, drop, length-append}
 use lib.Seq.{drop-drop, take-append-seam, drop-append-seam}
-use Rattle.sequences.specs.Lists.{part}
-use Rattle.sequences.specs.Members.{In, here, there}
+use Rattle.sequences.specs.Lists.{part, In, here, there}
 use Rattle.sequences.proofs.Members.{in-left}
-use Rattle.grammar.specs.Fields.{Byte}
+use Rattle.grammar.specs.Grammar.{Byte}
 
 -- two constructors are never equal
 pub clash : {A : Type 0} → _≡_ {A = ℕ} 0 1 → A

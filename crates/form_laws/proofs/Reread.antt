@@ -7,24 +7,21 @@ use mathlib.Core.List.{List, [], _∷_, map}
 use native.Mathlib.Omega.{arith}
 use lib.ListN.{length, getElem?, drop}
 use borrow.Author.Tests.{le-ltb}
-use Rattle.sequences.specs.Members.{Every, first, In}
+use Rattle.sequences.specs.Lists.{Every, first, In}
 use Rattle.sequences.proofs.Overlay.{part-length}
-use Rattle.token.specs.Answers.{accepted, longest, nameRows, qnameRows}
+use Rattle.token.specs.Tokens.{accepted, longest, nameRows, qnameRows}
 use Rattle.modes.specs.Modes.{content}
 use Rattle.scan.specs.Steps.{endStep, stepAt}
 use Rattle.scan.specs.declared.Room.{Room}
 use Rattle.scan.specs.declared.Step.the-variants as step
-use Rattle.machine.specs.Rows.{NameRow, EventRow}
-use Rattle.machine.specs.Machine.{State, view, started, reading}
-use Rattle.machine.specs.Events.{textIn, nameText, eventOf, eventsOf}
+use Rattle.machine.specs.Machine.{NameRow, EventRow, State, view, started, reading, textIn, nameText, eventOf, eventsOf}
 use Rattle.machine.specs.Facts.{NameFits}
 use Rattle.machine.proofs.Trace as traces
 use Rattle.machine.proofs.Trace.{Trace, Stopped, stops-reading}
 use Rattle.machine.proofs.Readings.{accepted-ends}
 use Rattle.machine.proofs.Facts.{rows-fit}
 use Rattle.form.specs.Canonical.{none-yet, body}
-use Rattle.grammar.specs.Points.{Point}
-use Rattle.grammar.specs.Grammar.{Depth, Header, Document, document}
+use Rattle.grammar.specs.Grammar.{Point, Depth, Header, Document, document}
 use Rattle.grammar.proofs.Leaves.{header-derived}
 use Rattle.grammar.proofs.Steps as steps
 use Rattle.grammar.proofs.Steps.{Fits, Path}

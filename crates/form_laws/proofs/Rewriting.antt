@@ -6,16 +6,12 @@ use mathlib.Core.Logic.{_↔_}
 use mathlib.Core.Option.{Option, none, some}
 use mathlib.Core.List.{List, [], _∷_, map}
 use lib.ListN.{take}
-use Rattle.token.specs.Answers.{accepted, nameRows, qnameRows}
+use Rattle.token.specs.Tokens.{accepted, nameRows, qnameRows}
 use Rattle.scan.specs.declared.Room.{Room}
-use Rattle.machine.specs.Rows.{EventRow}
-use Rattle.machine.specs.Machine.{reading}
-use Rattle.machine.specs.Events.{eventsOf}
+use Rattle.machine.specs.Machine.{EventRow, reading, eventsOf}
 use Rattle.machine.specs.Balance.{Opened, nothingOpen, taken, andThen, check}
 use Rattle.form.specs.Canonical.{none-yet, body, canonical}
-use Rattle.grammar.specs.Points.{Point}
-use Rattle.grammar.specs.Grammar.{Depth, Document, document}
-use Rattle.grammar.specs.Accepts.{rowsIn, eventsDerived}
+use Rattle.grammar.specs.Grammar.{Point, Depth, Document, document, rowsIn, eventsDerived}
 use Rattle.grammar.proofs.Unique.{at-most-one}
 use Rattle.grammar.proofs.Exact.{accepted-derives}
 use Rattle.form_laws.specs.Forms.{eventsRead, formRead, Formed, ReadsAgain}

@@ -7,13 +7,10 @@ use mathlib.Core.Option.{Option, none, some}
 use mathlib.Core.List.{List, [], _∷_, _++_, map, append-assoc, append-nil}
 use native.Mathlib.Omega.{arith}
 use lib.ListN.{length, getElem?, getD, length-append, length-map}
-use Rattle.sequences.specs.Members.{In}
+use Rattle.sequences.specs.Lists.{In}
 use Rattle.sequences.proofs.Members.{in-left}
-use Rattle.machine.specs.Rows.{NameRow, QnameRow}
-use Rattle.machine.specs.Machine.{Scope, elementsIn}
-use Rattle.machine.specs.Events.{qnamed, nameText, qnameIn, qnameEvent}
-use Rattle.form.specs.Places.{Triple, triple}
-use Rattle.form.specs.Canonical.{Defined}
+use Rattle.machine.specs.Machine.{NameRow, QnameRow, Scope, elementsIn, qnamed, nameText, qnameIn, qnameEvent}
+use Rattle.form.specs.Canonical.{Triple, triple, Defined}
 use Rattle.form_laws.proofs.Lists.{clash, in-last, in-snoc, Distinct, alone, distinct-snoc, Has, has-more, not-more, map-snoc, map-at, some-at}
 
 -- ---- rows that only grow

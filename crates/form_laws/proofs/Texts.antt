@@ -6,10 +6,8 @@ use mathlib.Core.Option.{some}
 use mathlib.Core.List.{List, [], _∷_, _++_}
 use native.Mathlib.Omega.{arith}
 use lib.ListN.{length, getElem?, length-append}
-use Rattle.sequences.specs.Lists.{same}
-use Rattle.sequences.specs.Members.{In}
-use Rattle.form.specs.Places.{Triple, sameTriple, place, absent, fresh, numberOf, grownIf, grown}
-use Rattle.form.specs.Canonical.{Defined, defined, withQname, withTexts}
+use Rattle.sequences.specs.Lists.{same, In}
+use Rattle.form.specs.Canonical.{Triple, sameTriple, place, absent, fresh, numberOf, grownIf, grown, Defined, defined, withQname, withTexts}
 use Rattle.form.proofs.Places.{Tells, tells-text, tells-triple, present, absent-place, place-present, place-grows, place-at, place-found, place-last}
 use Rattle.form_laws.proofs.Lists.{in-place}
 

@@ -10,12 +10,10 @@ use native.Mathlib.Omega.{arith}
 use lib.Dec.{eqb}
 use lib.ListN.{length, getD, drop, length-append}
 use borrow.Author.Tests.{eqb-true}
-use Rattle.sequences.specs.Lists.{part}
-use Rattle.sequences.specs.Members.{In}
+use Rattle.sequences.specs.Lists.{part, In}
 use Rattle.sequences.proofs.Overlay.{part-length}
 use Rattle.sequences.proofs.Tests.{and-left, and-right}
-use Rattle.token.specs.Answers.{longest}
-use Rattle.token.specs.Tokens.{classOf, shapeOf}
+use Rattle.token.specs.Tokens.{longest, classOf, shapeOf}
 use Rattle.token.specs.declared.Class.{Class}
 use Rattle.number.specs.Number.{shortest}
 use Rattle.value.specs.Fields.{textAt, fieldAt}
@@ -27,17 +25,12 @@ use Rattle.modes.specs.declared.Mode.{Mode}
 use Rattle.modes.specs.declared.Mode.the-variants as mode
 use Rattle.modes.specs.declared.View.{View}
 use Rattle.scan.specs.declared.Room.{Room}
-use Rattle.machine.specs.Rows.{NameRow, QnameRow, EventRow, nameRow, qnameRow, event}
-use Rattle.machine.specs.Machine.{Scope, scope, State, state, view, rowOf}
+use Rattle.machine.specs.Machine.{NameRow, QnameRow, EventRow, nameRow, qnameRow, event, Scope, scope, State, state, view, rowOf, plain, nameText, eventOf}
 use Rattle.machine.specs.Machine as machine
-use Rattle.machine.specs.Events.{plain, nameText, eventOf}
-use Rattle.machine.specs.Events as events
 use Rattle.machine.proofs.Found as found
 use Rattle.machine.proofs.Found.{Stands, ValueClass}
-use Rattle.form.specs.Places.{triple, numberOf}
-use Rattle.form.specs.Canonical.{withUnits, lengthOf, headerOf, Scopes, scopes, scopesAfter, left, body, definition}
-use Rattle.grammar.specs.Points.{Point, point, headed, nesting, returned}
-use Rattle.grammar.specs.Grammar.{Standalone, standalone, atomicvalue, pi}
+use Rattle.form.specs.Canonical.{triple, numberOf, withUnits, lengthOf, headerOf, Scopes, scopes, scopesAfter, left, body, definition}
+use Rattle.grammar.specs.Grammar.{Point, point, headed, nesting, returned, Standalone, standalone, atomicvalue, pi}
 use Rattle.grammar.proofs.Atomic.{Values, any-version, later, class-atomic}
 use Rattle.grammar.proofs.Leaves.{number-found, text-derived}
 use Rattle.grammar.proofs.Payloads.{payload-found}
@@ -63,7 +56,7 @@ values-of v found.any-version a = any-version
 values-of v found.version-2 a = later (eqb-true _ _ (and-right (content (v .mode) || listing (v .mode)) _ a))
 
 value-told : (doc : List ℕ) (names : List NameRow) (qnames : List QnameRow) (token at a b : ℕ) {c : Class} → ValueClass c → classOf token ≡ c → eqb token 0x8C ≡ false
-    → eventOf doc names qnames (event token at a b) ≡ events.valued token (part doc a b)
+    → eventOf doc names qnames (event token at a b) ≡ machine.valued token (part doc a b)
 unfolding eventOf
 value-told doc names qnames token at a b found.any-version e n = rw (e, n)
 value-told doc names qnames token at a b found.version-2 e n = rw e
@@ -84,7 +77,7 @@ module _ (d : List ℕ) (N : List NameRow) (Q : List QnameRow) (d′ : List ℕ)
       let l = payload-lawful (shapeOf token) d (s .at) f in
       let n = not-qname token p l in
       let r : EventRow = event token (s .at) place size in
-      let h : tell d N Q d′ room fit E r ≡ events.valued token p = value-told d N Q token (s .at) place size k (t .class-is) n in
+      let h : tell d N Q d′ room fit E r ≡ machine.valued token p = value-told d N Q token (s .at) place size k (t .class-is) n in
       let i = payload-inside (length d) (s .at) f (field-inside (shapeOf token) d (s .at)) in
       let j = part-length d place size (i .1) in
       let w = body σ (map (tell d N Q d′ room fit E) rs) in
@@ -96,7 +89,7 @@ module _ (d : List ℕ) (N : List NameRow) (Q : List QnameRow) (d′ : List ℕ)
       let v : Values (s′ .here .version) (classOf token) = rw (S .here .version, t .class-is) (values-of (view s) k (t .may)) in
       on-event d N Q d′ room fit E r (event token (s′ .at) (x .place) (length p)) (afterValue (s .mode)) (afterValue (s′ .mode)) (s .here .elements)
       (s′ .here .elements) (place + size) (x .place + length p) S (S .here .elements) (earlier-equal (a .values)) refl
-      (λ M P y. value-told d′ M P token (s′ .at) (x .place) (length p) k (t .class-is) n ∙ ap (events.valued token) (x .there .is) ∙ sym h)
+      (λ M P y. value-told d′ M P token (s′ .at) (x .place) (length p) k (t .class-is) n ∙ ap (machine.valued token) (x .there .is) ∙ sym h)
       (value allOpen allNested d′ room (s′ .here .elements) (s′ .outer) (s′ .mode) (m .outside) (m .may)
       (atomicvalue (b .0) (class-atomic (s′ .here .version) token v) (payload-found d′ (shapeOf token) (s′ .at) (x .read))))
       (x .there .after) go
@@ -115,7 +108,7 @@ module _ (d : List ℕ) (N : List NameRow) (Q : List QnameRow) (d′ : List ℕ)
   unfolding eventOf classOf
   on-standalone {s} {rs} v l h go s′ σ G o S =
       let r : EventRow = event 0 (s .at) v 0 in
-      let b = drop-byte d′ (s′ .at) (told d N Q d′ room fit E rs r {e = events.standalone v} refl S) in
+      let b = drop-byte d′ (s′ .at) (told d N Q d′ room fit E rs r {e = machine.standalone v} refl S) in
       let z : inDeclaration (s′ .mode) ≡ true = rw (earlier-declares o h) h in
       on-event d N Q d′ room fit E r (event 0 (s′ .at) v 0) mode.Prolog mode.Prolog (s .here .elements) (s′ .here .elements) (s .at + 1) (s′ .at + 1) S (S .here .elements)
       same refl (λ M P y. refl) (standing (pointOf s′) _ (s′ .mode) (s′ .here .elements) (s′ .outer) z (standalone (b .0) l)) (b .1) go
@@ -138,9 +131,9 @@ module _ (d : List ℕ) (N : List NameRow) (Q : List QnameRow) (d′ : List ℕ)
       let r : EventRow = event 0xF4 (s .at) row start in
       let target = nameText d N row in
       let t = part d place (2 * units) in
-      let h : tell d N Q d′ room fit E r ≡ events.pi target t = rw e in
+      let h : tell d N Q d′ room fit E r ≡ machine.pi target t = rw e in
       let c = σ .here .names in
-      let w = body (scopesAfter σ (events.pi target t)) (map (tell d N Q d′ room fit E) rs) in
+      let w = body (scopesAfter σ (machine.pi target t)) (map (tell d N Q d′ room fit E) rs) in
       let i : drop (s′ .at) d′ ≡ definition c target ++ (0xF4 ∷ (shortest (numberOf c target) ++ (withUnits t ++ w))) = told d N Q d′ room fit E rs r h S ∙ simp append-assoc in
       let a = alike-earlier o in
       let R = define d N Q d′ room fit target (among-row (s .here .names) (G .mine) (S .here .names .held) n l) (metas-alike a metas) (with-left d N Q d′ room fit S i) in
@@ -168,9 +161,9 @@ module _ (d : List ℕ) (N : List NameRow) (Q : List QnameRow) (d′ : List ℕ)
   unfolding eventOf classOf
   on-nest {s} {rs} {next} version l h out cont deep go s′ σ G o S =
       let r : EventRow = event 0xEC (s .at) version 0 in
-      let σ′ : Scopes = scopesAfter σ (events.nest version) in
+      let σ′ : Scopes = scopesAfter σ (machine.nest version) in
       let w = body σ′ (map (tell d N Q d′ room fit E) rs) in
-      let e : drop (s′ .at) d′ ≡ 0xEC ∷ (headerOf version ++ w) = told d N Q d′ room fit E rs r {e = events.nest version} refl S in
+      let e : drop (s′ .at) d′ ≡ 0xEC ∷ (headerOf version ++ w) = told d N Q d′ room fit E rs r {e = machine.nest version} refl S in
       let b = drop-byte d′ (s′ .at) e in
       let x = header-at d′ (s′ .at + 1) version w l h (b .1) in
       let a = alike-earlier o in

@@ -9,8 +9,7 @@ use lib.ListN.{length, getD, drop}
 use borrow.Author.Tests.{leb-true, eqb-true, lt-ltb, le-leb}
 use Rattle.sequences.specs.Lists.{part}
 use Rattle.sequences.proofs.Tests.{cond-if, and-left, and-right}
-use Rattle.token.specs.Answers.{largest}
-use Rattle.token.specs.Tokens.{Token, tokens, find, shapeOf}
+use Rattle.token.specs.Tokens.{largest, Token, tokens, find, shapeOf}
 use Rattle.token.specs.declared.Shape.{Shape}
 use Rattle.token.specs.declared.Shape.the-variants.{Nothing, Fixed, Text, Blob, CodePage, Decimal, Qname, Stamp, Date, Time, ZonedTime}
 use Rattle.number.specs.Number.{numberAt, shortest}
@@ -21,8 +20,7 @@ use Rattle.rules.specs.Rules.{decimalSize, decimalLawful, timeBytes, timeLawful
 use Rattle.value.specs.Fields.{needed, textAt, textPayload, timeField, extentAt, fieldAt}
 use Rattle.value.specs.declared.Field.the-variants as field
 use Rattle.form.specs.Canonical.{withUnits, lengthOf, headerOf}
-use Rattle.grammar.specs.Fields.{TextData}
-use Rattle.grammar.specs.Grammar.{Header}
+use Rattle.grammar.specs.Grammar.{TextData, Header}
 use Rattle.grammar.proofs.Leaves.{number-found}
 use Rattle.form_laws.proofs.Lists.{clash, drop-byte, Piece, piece}
 

@@ -3,11 +3,9 @@ use Prim.Native.Nat.{ℕ, _≤_}
 use mathlib.Core.Path.{_≡_}
 use mathlib.Core.List.{List, map}
 use lib.ListN.{length}
-use Rattle.token.specs.Answers.{accepted, longest}
+use Rattle.token.specs.Tokens.{accepted, longest}
 use Rattle.scan.specs.declared.Room.{Room}
-use Rattle.machine.specs.Rows.{EventRow}
-use Rattle.machine.specs.Machine.{reading}
-use Rattle.machine.specs.Events.{Event, eventsOf}
+use Rattle.machine.specs.Machine.{EventRow, reading, Event, eventsOf}
 use Rattle.form.specs.Canonical.{canonical}
 
 -- the events of a reading, names by text

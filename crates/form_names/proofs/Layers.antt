@@ -5,7 +5,7 @@ use mathlib.Core.Bool.{Bool}
 use mathlib.Core.List.{List, [], _∷_}
 use native.Mathlib.Omega.{arith}
 use lib.ListN.{length}
-use Rattle.form.specs.Places.{place, absent}
+use Rattle.form.specs.Canonical.{place, absent}
 use Rattle.form_slots.specs.Slots.{Cleared}
 use Rattle.form_names.proofs.Marks.{slotOf, Marks, Agree, marks-agree}
 

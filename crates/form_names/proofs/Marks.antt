@@ -11,7 +11,7 @@ use lib.ListN.{length, getD, set, length-set, length-append}
 use lib.Seq.{set-out, getD-set-same, getD-set-other}
 use borrow.Author.Tests.{ltb-true, ltb-false, eqb-true, eqb-false, ne-eqb}
 use Rattle.sequences.proofs.Tests.{cond-if}
-use Rattle.form.specs.Places.{place, absent}
+use Rattle.form.specs.Canonical.{place, absent}
 use Rattle.form.proofs.Places.{Tells, present, place-absent, place-present, place-grows, place-at, place-last, place-other}
 use Rattle.form_slots.specs.Slots.{marked, Low}
 

@@ -6,8 +6,7 @@ use mathlib.Core.List.{List, [], _∷_, _++_}
 use native.Mathlib.Omega.{arith}
 use lib.ListN.{length, length-append, length-set}
 use Rattle.sequences.specs.Lists.{same}
-use Rattle.form.specs.Places.{Triple, place, absent, fresh, numberOf, grownIf, grown}
-use Rattle.form.specs.Canonical.{definition, withTexts, definitions, qnameBytes}
+use Rattle.form.specs.Canonical.{Triple, place, absent, fresh, numberOf, grownIf, grown, definition, withTexts, definitions, qnameBytes}
 use Rattle.form.proofs.Places.{Tells, tells-text, present, absent-place, place-grows, place-last}
 use Rattle.form_slots.specs.declared.Parts.{Parts}
 use Rattle.form_names.specs.Naming.{classText, bytesBefore, slots1, slots2, slots3, textsBefore, qnameNumbers, namesAfter}

@@ -6,8 +6,7 @@ use mathlib.Core.List.{List, [], _∷_, _++_}
 use native.Mathlib.Omega.{arith}
 use lib.ListN.{length}
 use Rattle.sequences.specs.Lists.{same}
-use Rattle.form.specs.Places.{Triple, sameTriple, place, absent, qnumberOf, grownIf}
-use Rattle.form.specs.Canonical.{defined, withTexts, qnameDefinition, withQname}
+use Rattle.form.specs.Canonical.{Triple, sameTriple, place, absent, qnumberOf, grownIf, defined, withTexts, qnameDefinition, withQname}
 use Rattle.form.proofs.Places.{tells-triple}
 use Rattle.form_slots.specs.Slots.{isNew, slotsAfter, numberIn}
 use Rattle.form_names.specs.Naming.{slots3, qnameBefore, namesAfter}

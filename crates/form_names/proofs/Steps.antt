@@ -17,7 +17,7 @@ use Rattle.form_slots.specs.Slots.{isNew, marked, slotsAfter, numberIn, Low, Pa
 use Rattle.form_names.specs.Naming.{classText, bytesBefore, slots1, slots2, slots3, textsBefore, qnameNumbers, qnameBefore, namesAfter}
 use Rattle.form_names.proofs.Names.{slots-low, slots3-low}
 use Rattle.form_slots.proofs.Slots.{low-more, number-low}
-use Rattle.token.specs.Answers.{qnameWidth}
+use Rattle.token.specs.Tokens.{qnameWidth}
 
 part-few : (doc : List ℕ) (place size : ℕ) → length (part doc place size) ≤ length doc
 part-few doc place size = rw (length-take, length-drop) (omega arith)

@@ -10,7 +10,7 @@ use Rattle.number.specs.Number.{shortest}
 use Rattle.form.specs.Canonical.{withUnits}
 use Rattle.form_slots.specs.declared.Parts.{Parts}
 use Rattle.form_slots.specs.Slots.{isNew, slotsAfter, numberIn}
-use Rattle.token.specs.Codes.{NAMEDEF-TOKEN, QNAMEDEF-TOKEN}
+use Rattle.token.specs.Tokens.{NAMEDEF-TOKEN, QNAMEDEF-TOKEN}
 
 -- the text of the row that a class is the number of
 unfoldable pub classText : List ℕ → List ℕ → ℕ → List ℕ

@@ -10,7 +10,7 @@ use lib.Seq.{getD-set-same, getD-set-other}
 use borrow.Author.Tests.{eqb-true, eqb-false}
 use Rattle.form_slots.specs.Slots.{marked, numberIn, partsAt, Low, Cleared}
 use Rattle.classes.specs.Search.{classAt}
-use Rattle.token.specs.Answers.{qnameWidth}
+use Rattle.token.specs.Tokens.{qnameWidth}
 
 pub slot-number : (slots : List ℕ) (base class : ℕ) {r : ℕ} → (class ≡ 0 → ⊥) → r ≡ getD slots (base + class) 0 → r ≡ numberIn slots base class
 slot-number slots base zero n e = absurd (n refl)

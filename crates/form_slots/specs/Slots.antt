@@ -8,7 +8,7 @@ use lib.Dec.{eqb}
 use lib.ListN.{length, getD, set}
 use Rattle.form_slots.specs.declared.Parts.{Parts}
 use Rattle.classes.specs.Search.{classAt}
-use Rattle.token.specs.Answers.{qnameWidth}
+use Rattle.token.specs.Tokens.{qnameWidth}
 
 -- the numbers of one document's region, and those of all: the outer document and 8 nested ones
 abbrev pub region : ℕ

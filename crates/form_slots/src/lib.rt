@@ -3,7 +3,7 @@ ghost use mathlib.Core.Path.{_≡_};
 ghost use Prim.Native.Nat.{_+_, _*_, _≤_, _<_};
 ghost use lib.ListN.{length, getD};
 ghost use Rattle.form_slots.specs.Slots.{marked, numberIn, partsAt, Low, Cleared, slotCount, region};
-ghost use Rattle.token.specs.Answers.{qnameWidth};
+ghost use Rattle.token.specs.Tokens.{qnameWidth};
 
 // The numbers of one document: how many classes are defined, and the number of each.
 pub const REGION: usize = 1025;

@@ -5,7 +5,7 @@ use mathlib.Core.Bool.{Bool, true, false}
 use mathlib.Core.List.{List, [], _∷_}
 use native.Mathlib.Omega.{arith}
 use lib.Dec.{eqb}
-use Rattle.sequences.specs.Members.{Every, none, first}
+use Rattle.sequences.specs.Lists.{Every, none, first}
 use Rattle.sequences.proofs.Tests.{cond-if}
 use Rattle.token.specs.Tokens.{Token, token, tokens, find, classOf, shapeOf}
 use Rattle.token.specs.declared.Class.{Class}
@@ -13,7 +13,7 @@ use Rattle.token.specs.declared.Class.the-variants as class
 use Rattle.token.specs.declared.Shape.{Shape}
 use Rattle.token.specs.declared.Shape.the-variants.{Nothing}
 use Rattle.machine.proofs.Codes.{find-code}
-use Rattle.grammar.specs.Atomic.{Atomic, SQL-BIT, SQL-TINYINT, SQL-SMALLINT, SQL-INT, SQL-BIGINT, SQL-REAL, SQL-FLOAT, SQL-MONEY, SQL-SMALLMONEY, SQL-DATETIME, SQL-SMALLDATETIME, SQL-DECIMAL, SQL-NUMERIC, SQL-UUID, SQL-VARBINARY, SQL-BINARY, SQL-IMAGE, SQL-CHAR, SQL-VARCHAR, SQL-TEXT, SQL-NVARCHAR, SQL-NCHAR, SQL-NTEXT, SQL-UDT, XSD-BOOLEAN, XSD-TIME, XSD-DATETIME, XSD-DATE, XSD-BINHEX, XSD-BASE64, XSD-DECIMAL, XSD-BYTE, XSD-UNSIGNEDSHORT, XSD-UNSIGNEDINT, XSD-UNSIGNEDLONG, XSD-QNAME, XSD-DATE2, XSD-DATETIME2, XSD-TIME2, XSD-DATEOFFSET, XSD-DATETIMEOFFSET, XSD-TIMEOFFSET}
+use Rattle.grammar.specs.Grammar.{Atomic, SQL-BIT, SQL-TINYINT, SQL-SMALLINT, SQL-INT, SQL-BIGINT, SQL-REAL, SQL-FLOAT, SQL-MONEY, SQL-SMALLMONEY, SQL-DATETIME, SQL-SMALLDATETIME, SQL-DECIMAL, SQL-NUMERIC, SQL-UUID, SQL-VARBINARY, SQL-BINARY, SQL-IMAGE, SQL-CHAR, SQL-VARCHAR, SQL-TEXT, SQL-NVARCHAR, SQL-NCHAR, SQL-NTEXT, SQL-UDT, XSD-BOOLEAN, XSD-TIME, XSD-DATETIME, XSD-DATE, XSD-BINHEX, XSD-BASE64, XSD-DECIMAL, XSD-BYTE, XSD-UNSIGNEDSHORT, XSD-UNSIGNEDINT, XSD-UNSIGNEDLONG, XSD-QNAME, XSD-DATE2, XSD-DATETIME2, XSD-TIME2, XSD-DATEOFFSET, XSD-DATETIMEOFFSET, XSD-TIMEOFFSET}
 
 -- a class of values, in a version that has them
 pub data Values (version : ℕ) : Class → Type 0 where

@@ -5,8 +5,7 @@ use Rattle.number.specs.Number.{front, numberAt}
 use Rattle.token.specs.Tokens.{classOf, shapeOf}
 use Rattle.rules.specs.Rules.{decimalSize, decimalLawful, lawful}
 use Rattle.value.specs.Fields.{needed, textAt, extentAt, fieldAt}
-use Rattle.fields.specs.References.{nameAt, qnameAt}
-use Rattle.fields.specs.Headers.{headerAt}
+use Rattle.fields.specs.Fields.{nameAt, qnameAt, headerAt}
 use Rattle.scan.specs.Steps.{eventDue, textStep, nameStep, qnameStep, extensionStep, piStep, elementStep, attributeStep, valueStep, nestStep, classStep, tokenStep, declaredStep, endStep, stepAt}
 use Rattle.machine.specs.Machine.{run, reading}
 use Rattle.numeral.specs.Numeral.{lastDigits, digitsIn, digits, fraction, numeral}

@@ -12,9 +12,7 @@ use Rattle.modes.specs.declared.Mode.the-variants as mode
 use Rattle.scan.specs.declared.Room.{Room}
 use Rattle.machine.specs.Machine.{Scope, scope}
 use Rattle.machine.proofs.Outside.{misc-content}
-use Rattle.grammar.specs.Points.{Point, referred, ended, headed, nesting, returned}
-use Rattle.grammar.specs.Fields.{Byte}
-use Rattle.grammar.specs.Grammar.{Star, nil, cons, Optional, absent, present, Depth, flat, both, inElement, inDocument, Qname, TextToken, Header, XmlDecl, xmldecl, DocTypeDecl, doctypedecl, Metadata, Comment, comment, Misc, misc-comment, misc-pi, misc-metadata, CdSect, cdsect, Part, part-metadata, part-value, Attribute, attribute, Attributes, attributes, Typed, typed, Document, document, Content, done, then, an-element, a-cdsect, a-pi, a-comment, an-atomicvalue, a-metadata, a-nestedbinaryxml, element, nestedbinaryxml}
+use Rattle.grammar.specs.Grammar.{Point, referred, ended, headed, nesting, returned, Byte, Star, nil, cons, Optional, absent, present, Depth, flat, both, inElement, inDocument, Qname, TextToken, Header, XmlDecl, xmldecl, DocTypeDecl, doctypedecl, Metadata, Comment, comment, Misc, misc-comment, misc-pi, misc-metadata, CdSect, cdsect, Part, part-metadata, part-value, Attribute, attribute, Attributes, attributes, Typed, typed, Document, document, Content, done, then, an-element, a-cdsect, a-pi, a-comment, an-atomicvalue, a-metadata, a-nestedbinaryxml, element, nestedbinaryxml}
 use Rattle.grammar.proofs.Rest.{clash}
 use Rattle.grammar.proofs.Steps as steps
 use Rattle.grammar.proofs.Steps.{stateOf, Reach, stay, _⨾_}

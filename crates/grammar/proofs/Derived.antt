@@ -4,11 +4,9 @@ use Prim.Native.Nat.{ℕ, _+_}
 use mathlib.Core.Path.{refl}
 use mathlib.Core.List.{List, [], _∷_, _++_}
 use native.Mathlib.Omega.{arith}
-use Rattle.machine.specs.Rows.{event}
+use Rattle.machine.specs.Machine.{event}
 use Rattle.machine.specs.Examples.{H, full}
-use Rattle.grammar.specs.Points.{blank, texted, headed}
-use Rattle.grammar.specs.Fields.{lowbyte}
-use Rattle.grammar.specs.Grammar.{nil, absent, flat, texttoken, Header, comment, document, done, then, a-comment, Derives}
+use Rattle.grammar.specs.Grammar.{blank, texted, headed, lowbyte, nil, absent, flat, texttoken, Header, comment, document, done, then, a-comment, Derives}
 
 -- H, then some bytes
 header : (more : List ℕ) → Header (H ++ more) 0 1

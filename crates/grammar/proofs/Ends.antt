@@ -6,7 +6,7 @@ use mathlib.Core.List.{List, [], _∷_}
 use native.Mathlib.Omega.{arith}
 use lib.ListN.{length}
 use borrow.Author.Tests.{le-ltb}
-use Rattle.token.specs.Answers.{accepted}
+use Rattle.token.specs.Tokens.{accepted}
 use Rattle.modes.specs.Modes.{content}
 use Rattle.scan.specs.Steps.{endStep, stepAt}
 use Rattle.modes.specs.declared.Mode.{Mode}
@@ -16,8 +16,7 @@ use Rattle.scan.specs.declared.Step.{Step}
 use Rattle.scan.specs.declared.Step.the-variants as step
 use Rattle.machine.specs.Machine.{Scope, State, elementsIn, apply, started}
 use Rattle.machine.proofs.Goes.{Goes}
-use Rattle.grammar.specs.Points.{Point, blank}
-use Rattle.grammar.specs.Grammar.{Depth, Header, Document}
+use Rattle.grammar.specs.Grammar.{Point, blank, Depth, Header, Document}
 use Rattle.grammar.proofs.Steps.{stateOf, Fits, look, Path, none, by}
 use Rattle.grammar.proofs.Complete.{reads}
 

@@ -8,8 +8,8 @@ use native.Mathlib.Omega.{arith}
 use lib.Dec.{ltb}
 use lib.ListN.{length, length-append}
 use borrow.Author.Tests.{ltb-true, ltb-false}
-use Rattle.token.specs.Answers.{accepted, longest}
-use Rattle.fields.specs.Headers.{headerAt}
+use Rattle.token.specs.Tokens.{accepted, longest}
+use Rattle.fields.specs.Fields.{headerAt}
 use Rattle.fields.specs.declared.Header as headers
 use Rattle.fields.specs.declared.Header.the-variants as header
 use Rattle.modes.specs.Modes.{content}
@@ -19,8 +19,7 @@ use Rattle.scan.specs.declared.Room.{Room}
 use Rattle.scan.specs.declared.Step.{Step}
 use Rattle.scan.specs.declared.Step.the-variants as step
 use Rattle.machine.specs.Machine as machine
-use Rattle.machine.specs.Machine.{Scope, State, view, apply, started, Result, reading}
-use Rattle.machine.specs.Events.{eventsOf}
+use Rattle.machine.specs.Machine.{Scope, State, view, apply, started, Result, reading, eventsOf}
 use Rattle.machine.proofs.Goes.{Goes}
 use Rattle.machine.proofs.Trace as traces
 use Rattle.machine.proofs.Trace.{Trace, Stopped, stops-reading, kept}
@@ -29,9 +28,7 @@ use Rattle.machine.proofs.Refusals.{header-refused}
 use Rattle.machine.proofs.Found as found
 use Rattle.machine.proofs.Found.{Found, found-step}
 use Rattle.machine.proofs.Readings.{accepted-ends}
-use Rattle.grammar.specs.Points.{Point, Rows, rowsAt, blank}
-use Rattle.grammar.specs.Grammar.{Header, Derives}
-use Rattle.grammar.specs.Accepts.{rowsIn, Accepts, eventsDerived}
+use Rattle.grammar.specs.Grammar.{Point, Rows, rowsAt, blank, Header, Derives, rowsIn, Accepts, eventsDerived}
 use Rattle.grammar.proofs.Leaves.{header-found, header-derived}
 use Rattle.grammar.proofs.Rest.{wholly, ending}
 use Rattle.grammar.proofs.Sound.{pointOf, Left, sound}

@@ -12,7 +12,7 @@ use lib.ListN.{length, getD, drop, drop-of-length-le}
 use lib.Seq.{drop-cons}
 use borrow.Author.Tests.{ltb-true, ltb-false, leb-true, lt-ltb, le-ltb, le-leb}
 use Rattle.sequences.proofs.Tests.{cond-if, and-left, and-right}
-use Rattle.token.specs.Answers.{largest}
+use Rattle.token.specs.Tokens.{largest}
 use Rattle.token.specs.declared.NameNumber.{NameNumber}
 use Rattle.token.specs.declared.QnameNumber.{QnameNumber}
 use Rattle.number.specs.Number.{NumberFront, spelled, unended, cut, after, front, numberAt}
@@ -22,17 +22,14 @@ use Rattle.number.specs.declared.Number.the-variants as number
 use Rattle.value.specs.Fields.{textAfter, textAt}
 use Rattle.value.specs.declared.Text.{Text}
 use Rattle.value.specs.declared.Text.the-variants as text
-use Rattle.fields.specs.References.{nameAfter, nameAt, qnameAfter, qnameAt}
-use Rattle.fields.specs.Headers.{headerJudged, headerAt}
+use Rattle.fields.specs.Fields.{nameAfter, nameAt, qnameAfter, qnameAt, headerJudged, headerAt}
 use Rattle.fields.specs.declared.Name as names
 use Rattle.fields.specs.declared.Name.the-variants as name
 use Rattle.fields.specs.declared.Qname as qnames
 use Rattle.fields.specs.declared.Qname.the-variants as qname
 use Rattle.fields.specs.declared.Header as headers
 use Rattle.fields.specs.declared.Header.the-variants as header
-use Rattle.grammar.specs.Points.{Point}
-use Rattle.grammar.specs.Fields.{Byte, Digits, lowbyte, highbyte, Number, TextData}
-use Rattle.grammar.specs.Grammar.{Name, Qname, Header}
+use Rattle.grammar.specs.Grammar.{Point, Byte, Digits, lowbyte, highbyte, Number, TextData, Name, Qname, Header}
 
 module _ (doc : List ℕ) where
   -- ---- numbers

@@ -24,9 +24,8 @@ use Rattle.value.specs.Fields.{needed, textAfter, textPayload, textAt, blobAfte
 use Rattle.value.specs.declared.Text as texts
 use Rattle.value.specs.declared.Field.{Field}
 use Rattle.value.specs.declared.Field.the-variants as field
-use Rattle.grammar.specs.Fields.{Byte, Number}
-use Rattle.grammar.specs.Payloads.{DecimalSize, four, eight, twelve, sixteen, SqlTime, SqlDate, SqlTimeZone, Payload, nothing, bytes, textdata, blob, codepagetext, decimal, stamp, sqldate, sqldatetime2, sqldatetimeoffset}
-use Rattle.grammar.specs.Payloads as payloads
+use Rattle.grammar.specs.Grammar.{Byte, Number, DecimalSize, four, eight, twelve, sixteen, SqlTime, SqlDate, SqlTimeZone, Payload, nothing, bytes, textdata, blob, codepagetext, decimal, stamp, sqldate, sqldatetime2, sqldatetimeoffset}
+use Rattle.grammar.specs.Grammar as payloads
 use Rattle.grammar.proofs.Leaves.{NumberIs, number-is, number-derived}
 use Rattle.grammar.proofs.Rest.{clash}
 

@@ -9,11 +9,8 @@ use lib.ListN.{length}
 use Rattle.modes.specs.Modes.{content, listing, inDeclaration, is, afterMetadata, afterMisc, afterValue}
 use Rattle.modes.specs.declared.Mode.{Mode}
 use Rattle.modes.specs.declared.Mode.the-variants as mode
-use Rattle.machine.specs.Rows.{event}
-use Rattle.machine.specs.Machine.{Scope, scope, elementsIn}
-use Rattle.grammar.specs.Points.{Point, point, referred, ended, headed, nesting}
-use Rattle.grammar.specs.Fields.{Byte}
-use Rattle.grammar.specs.Grammar.{Star, nil, cons, Optional, absent, present, Depth, flat, Qname, TextToken, Header, Standalone, XmlDecl, xmldecl, doctypedecl, Metadata, Misc, misc-metadata, cdsect, AtomicValue, Part, part-metadata, part-value, Attribute, attribute, Attributes, attributes, Typed, typed, Document, document, Content, done, then, Item, an-element, a-cdsect, an-atomicvalue, a-metadata, a-nestedbinaryxml, element, nestedbinaryxml}
+use Rattle.machine.specs.Machine.{event, Scope, scope, elementsIn}
+use Rattle.grammar.specs.Grammar.{Point, point, referred, ended, headed, nesting, Byte, Star, nil, cons, Optional, absent, present, Depth, flat, Qname, TextToken, Header, Standalone, XmlDecl, xmldecl, doctypedecl, Metadata, Misc, misc-metadata, cdsect, AtomicValue, Part, part-metadata, part-value, Attribute, attribute, Attributes, attributes, Typed, typed, Document, document, Content, done, then, Item, an-element, a-cdsect, an-atomicvalue, a-metadata, a-nestedbinaryxml, element, nestedbinaryxml}
 
 -- two different constructors are equal: anything follows
 pub clash : {A : Type 0} → _≡_ {A = ℕ} 0 1 → A

@@ -36,10 +36,7 @@ use Rattle.machine.proofs.Trace.{Trace}
 use Rattle.machine.proofs.Codes.{coded, reference-shape}
 use Rattle.machine.proofs.Found as found
 use Rattle.machine.proofs.Found.{Stands, TextLeads, ValueClass, Found, found-step}
-use Rattle.grammar.specs.Points.{Point, point, texted, referred}
-use Rattle.grammar.specs.Atomic.{Atomic}
-use Rattle.grammar.specs.Fields.{Byte}
-use Rattle.grammar.specs.Grammar.{TextToken, texttoken, standalone, a-namedef, namedef, a-qnamedef, qnamedef, an-extension, extension, flush-defined-name-tokens, comment, pi, misc-comment, misc-pi, a-comment, a-pi, Qname, AtomicValue, atomicvalue, qname-value}
+use Rattle.grammar.specs.Grammar.{Point, point, texted, referred, Atomic, Byte, TextToken, texttoken, standalone, a-namedef, namedef, a-qnamedef, qnamedef, an-extension, extension, flush-defined-name-tokens, comment, pi, misc-comment, misc-pi, a-comment, a-pi, Qname, AtomicValue, atomicvalue, qname-value}
 use Rattle.grammar.proofs.Atomic.{Values, any-version, later, class-atomic}
 use Rattle.grammar.proofs.Payloads.{payload-found}
 use Rattle.grammar.proofs.Leaves.{number-found, text-found, name-found, qname-found, header-found}

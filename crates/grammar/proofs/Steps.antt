@@ -20,13 +20,10 @@ use Rattle.modes.specs.declared.View.{View}
 use Rattle.scan.specs.declared.Room.{Room}
 use Rattle.scan.specs.declared.Step.{Step}
 use Rattle.scan.specs.declared.Step.the-variants as step
-use Rattle.machine.specs.Rows.{event}
-use Rattle.machine.specs.Machine.{Scope, scope, State, state, namesIn, qnamesIn, apply}
+use Rattle.machine.specs.Machine.{event, Scope, scope, State, state, namesIn, qnamesIn, apply}
 use Rattle.machine.specs.Machine as machine
 use Rattle.machine.proofs.Goes.{Goes}
-use Rattle.grammar.specs.Points.{Point, referred, ended, headed, nesting, returned}
-use Rattle.grammar.specs.Fields.{Byte}
-use Rattle.grammar.specs.Grammar.{TextToken, texttoken, Qname, Header, Standalone, standalone, Metadata, a-namedef, namedef, a-qnamedef, qnamedef, an-extension, extension, flush-defined-name-tokens, Pi, pi, AtomicValue, atomicvalue, qname-value}
+use Rattle.grammar.specs.Grammar.{Point, referred, ended, headed, nesting, returned, Byte, TextToken, texttoken, Qname, Header, Standalone, standalone, Metadata, a-namedef, namedef, a-qnamedef, qnamedef, an-extension, extension, flush-defined-name-tokens, Pi, pi, AtomicValue, atomicvalue, qname-value}
 use Rattle.grammar.proofs.Atomic.{Values, any-version, later, atomic-class, atomic-shape}
 use Rattle.grammar.proofs.Payloads.{payload-derived}
 use Rattle.grammar.proofs.Leaves.{number-derived, text-derived, name-derived, qname-derived, header-derived}

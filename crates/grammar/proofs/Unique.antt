@@ -7,9 +7,7 @@ use native.Mathlib.Omega.{arith}
 use lib.ListN.{length}
 use Rattle.scan.specs.declared.Room.{Room}
 use Rattle.machine.specs.Machine.{started}
-use Rattle.grammar.specs.Points.{Point, rowsAt, blank}
-use Rattle.grammar.specs.Grammar.{Depth, Document}
-use Rattle.grammar.specs.Accepts.{rowsIn}
+use Rattle.grammar.specs.Grammar.{Point, rowsAt, blank, Depth, Document, rowsIn}
 use Rattle.grammar.proofs.Steps.{stateOf, Path}
 use Rattle.grammar.proofs.Ends.{same-end, Reaches, noneOpen, someNested, unlimited}
 

@@ -3,9 +3,8 @@ use Prim.Native.Nat.{ℕ}
 use mathlib.Core.List.{List, [], _∷_, _++_}
 use mathlib.Core.Option.{Option, some}
 use Rattle.plan.specs.Text.{textOf}
-use Rattle.machine.specs.Rows.{NameRow, QnameRow, EventRow}
+use Rattle.machine.specs.Machine.{NameRow, QnameRow, EventRow, Result}
 use Rattle.machine.specs.Machine as machine
-use Rattle.machine.specs.Machine.{Result}
 use Rattle.machine.specs.Examples.{H, full}
 
 -- a document with the answer number and its place, no case has a row; or a token with its payload and the units of its text

@@ -1,19 +1,236 @@
--- The grammar of 004, section 2, as derivations, with 01's rules where 01 decides ("Document rules"). A nonterminal is a
--- relation, an alternative a constructor. A derivation leads from a point to a point; its depth is what it has open at most.
--- The limits of 01 stand apart, in `Derives` at the end.
-use Prim.Native.Nat.{ℕ, suc, _+_, _*_, _≤_, max}
+-- The grammar of 004, section 2, as derivations, with 01's rules where 01 decides ("Document rules", "Value rules"). A
+-- nonterminal is a relation, an alternative a constructor. The limits of 01 stand apart, in `Derives`.
+use Prim.Native.Nat.{ℕ, suc, _+_, _*_, _%_, _≤_, _<_, max}
 use mathlib.Core.Path.{_≡_}
-use mathlib.Core.List.{List}
-use lib.ListN.{length}
-use Rattle.token.specs.Answers.{longest, openElements, nestedDocuments}
+use mathlib.Core.List.{List, [], _∷_, _++_, map}
+use lib.ListN.{length, getD}
+use Rattle.token.specs.Tokens.{largest, longest, openElements, nestedDocuments, accepted, PI-TOKEN, NEST-TOKEN, ENDNEST-TOKEN, XMLDECL-TOKEN, ENCODING-TOKEN, DOCTYPEDECL-TOKEN, SYSTEM-TOKEN, PUBLIC-TOKEN, SUBSET-TOKEN, NAMEDEF-TOKEN, QNAMEDEF-TOKEN, EXTN-TOKEN, FLUSH-DEFINED-NAME-TOKENS, COMMENT-TOKEN, CDATA-TOKEN, CDATAEND-TOKEN, ATTRIBUTE-TOKEN, ENDATTRIBUTES-TOKEN, ELEMENT-TOKEN, ENDELEMENT-TOKEN}
+use mathlib.Core.Logic.{_⊎_}
+use Rattle.sequences.specs.Lists.{part, little}
 use Rattle.token.specs.declared.Shape.{Shape}
 use Rattle.token.specs.declared.Shape.the-variants as shape
-use Rattle.token.specs.Codes.{XMLDECL-TOKEN, ENCODING-TOKEN, DOCTYPEDECL-TOKEN, SYSTEM-TOKEN, PUBLIC-TOKEN, SUBSET-TOKEN, NAMEDEF-TOKEN, QNAMEDEF-TOKEN, EXTN-TOKEN, FLUSH-DEFINED-NAME-TOKENS, COMMENT-TOKEN, PI-TOKEN, CDATA-TOKEN, CDATAEND-TOKEN, ATTRIBUTE-TOKEN, ENDATTRIBUTES-TOKEN, ELEMENT-TOKEN, ENDELEMENT-TOKEN, NEST-TOKEN, ENDNEST-TOKEN}
+use Rattle.machine.specs.Machine.{NameRow, QnameRow, EventRow, nameRow, qnameRow, event, rowOf, State, reading, Event, eventOf}
 use Rattle.scan.specs.declared.Room.{Room}
-use Rattle.grammar.specs.Points.{Point, Rows, rowsAt, blank, texted, stoodAlone, instructed, referred, ended, valued, named, qnamed, moved, flushed, headed, nesting, returned}
-use Rattle.grammar.specs.Fields.{Byte, Mb32, TextData}
-use Rattle.grammar.specs.Atomic.{Atomic}
-use Rattle.grammar.specs.Payloads.{Payload}
+
+-- ---- bytes, multi-byte numbers and texts
+
+module _ (doc : List ℕ) where
+  -- this byte stands at this place
+  pub record Byte (place byte : ℕ) : Type 0 where
+    pub inside : place < length doc
+    pub is : getD doc place 0 ≡ byte
+
+  -- *highbyte lowbyte, of at most so many bytes: from a place, a value, to a place (2.3.2)
+  pub data Digits : ℕ → ℕ → ℕ → ℕ → Type 0 where
+    lowbyte : {most p b : ℕ} → Byte p b → b < 128 → Digits (suc most) p b (p + 1)
+    highbyte : {most p b v q : ℕ} → Byte p b → 128 ≤ b → Digits most (p + 1) v q → Digits (suc most) p (b % 128 + 128 * v) q
+
+  -- 01: the value is at most 2,147,483,647; longer spellings than needed are accepted
+  pub record Number (most p v q : ℕ) : Type 0 where
+    pub spelled : Digits most p v q
+    pub small : v ≤ largest
+
+  -- mb32 = *4highbyte lowbyte; mb64 = *9highbyte lowbyte is `Number 10`, in payloads alone
+  abbrev pub Mb32 : ℕ → ℕ → ℕ → Type 0
+  Mb32 p v q = Number 5 p v q
+
+  -- textdata = length32 *(byte byte): its units lie at a place
+  pub record TextData (p place units : ℕ) : Type 0 where
+    pub length32 : Mb32 p units place
+    pub there : place + 2 * units ≤ length doc
+
+-- ---- what follows the token of a value, by its shape (004, sections 2, 2.3 and 2.4): from the token's place, the place and the
+-- size of the payload (01, "Rows")
+
+-- precision, scale and sign, then decimaldata = 4byte / 8byte / 12byte / 16byte
+pub data DecimalSize : ℕ → Type 0 where
+  four : DecimalSize 7
+  eight : DecimalSize 11
+  twelve : DecimalSize 15
+  sixteen : DecimalSize 19
+
+module _ (doc : List ℕ) where
+  -- sqltime = (%x00-02 3byte) / (%x03-04 4byte) / (%x05-07 5byte): so many bytes with the precision
+  pub data SqlTime (place : ℕ) : ℕ → Type 0 where
+    three : {precision : ℕ} → Byte doc place precision → precision ≤ 2 → SqlTime place 4
+    four : {precision : ℕ} → Byte doc place precision → 3 ≤ precision → precision ≤ 4 → SqlTime place 5
+    five : {precision : ℕ} → Byte doc place precision → 5 ≤ precision → precision ≤ 7 → SqlTime place 6
+
+  -- sqldate = 3byte, little-endian; 01: from the first to the last day
+  pub record SqlDate (first last place : ℕ) : Type 0 where
+    pub from : first ≤ little (part doc place 3)
+    pub to : little (part doc place 3) ≤ last
+
+  -- sqltimezone = 2byte, little-endian; 01: signed, -840 to 840
+  pub record SqlTimeZone (place : ℕ) : Type 0 where
+    pub within : (little (part doc place 2) ≤ 840) ⊎ (64696 ≤ little (part doc place 2))
+
+  pub data Payload : Shape → ℕ → ℕ → ℕ → Type 0 where
+    -- no value has this shape
+    nothing : {at : ℕ} → (at + 1) + 0 ≤ length doc → Payload shape.Nothing at (at + 1) 0
+    -- byte, 2byte, 4byte, 8byte, 16byte
+    bytes : {at size : ℕ} → (at + 1) + size ≤ length doc → Payload (shape.Fixed size) at (at + 1) size
+    -- textdata = length32 *(byte byte), textdata64 = length64 *(byte byte)
+    textdata : {most at units place : ℕ} → Number doc most (at + 1) units place → place + 2 * units ≤ length doc → Payload (shape.Text most) at place (2 * units)
+    -- blob = length32 *byte, blob64 = length64 *byte
+    blob : {most at place size : ℕ} → Number doc most (at + 1) size place → place + size ≤ length doc → Payload (shape.Blob most) at place size
+    -- codepagetext = length32 codepage *byte, codepagetext64 = length64 codepage *byte; codepage = 4byte
+    codepagetext : {most at place size : ℕ} → Number doc most (at + 1) size place → place + size ≤ length doc → 4 ≤ size → Payload (shape.CodePage most) at place size
+    -- decimal = length32 byte sign decimaldata, where 2.3.5 and 01 have two bytes before the sign: precision at most 38,
+    -- scale at most precision; sign 0 or 1
+    decimal : {at place size : ℕ} → Number doc 5 (at + 1) size place → DecimalSize size → place + size ≤ length doc → getD doc place 0 ≤ 38
+        → getD doc (place + 1) 0 ≤ getD doc place 0 → getD doc (place + 2) 0 ≤ 1 → Payload shape.Decimal at place size
+    -- 8byte of XSD-TIME, XSD-DATETIME, XSD-DATE; 01: the low two bits
+    stamp : {low at : ℕ} → (at + 1) + 8 ≤ length doc → getD doc (at + 1) 0 % 4 ≡ low → Payload (shape.Stamp low) at (at + 1) 8
+    -- sqldate
+    sqldate : {first last at : ℕ} → (at + 1) + 3 ≤ length doc → SqlDate first last (at + 1) → Payload (shape.Date first last) at (at + 1) 3
+    -- sqldatetime2 = sqltime sqldate
+    sqldatetime2 : {first last at time : ℕ} → SqlTime (at + 1) time → (at + 1) + (time + 3) ≤ length doc → SqlDate first last ((at + 1) + time)
+        → Payload (shape.Time first last) at (at + 1) (time + 3)
+    -- sqldatetimeoffset = sqltime sqldate sqltimezone
+    sqldatetimeoffset : {first last at time : ℕ} → SqlTime (at + 1) time → (at + 1) + (time + 5) ≤ length doc → SqlDate first last ((at + 1) + time)
+        → SqlTimeZone ((at + 1) + (time + 3)) → Payload (shape.ZonedTime first last) at (at + 1) (time + 5)
+
+-- ---- the alternatives of atomicvalue in 004's order: the token, and the shape of what follows it; 01 decides that 7A to 7F are
+-- of version 2 alone, and the bounds that shapes carry: the first and the last day
+
+-- `Text n`, `Blob n`, `CodePage n`: the length is an mb32 (n is 5) or an mb64 (n is 10)
+pub data Atomic (version : ℕ) : ℕ → Shape → Type 0 where
+  SQL-BIT : Atomic version 0x06 (shape.Fixed 1)
+  SQL-TINYINT : Atomic version 0x07 (shape.Fixed 1)
+  SQL-SMALLINT : Atomic version 0x01 (shape.Fixed 2)
+  SQL-INT : Atomic version 0x02 (shape.Fixed 4)
+  SQL-BIGINT : Atomic version 0x08 (shape.Fixed 8)
+  SQL-REAL : Atomic version 0x03 (shape.Fixed 4)
+  SQL-FLOAT : Atomic version 0x04 (shape.Fixed 8)
+  SQL-MONEY : Atomic version 0x05 (shape.Fixed 8)
+  SQL-SMALLMONEY : Atomic version 0x14 (shape.Fixed 4)
+  SQL-DATETIME : Atomic version 0x12 (shape.Fixed 8)
+  SQL-SMALLDATETIME : Atomic version 0x13 (shape.Fixed 4)
+  SQL-DECIMAL : Atomic version 0x0A shape.Decimal
+  SQL-NUMERIC : Atomic version 0x0B shape.Decimal
+  SQL-UUID : Atomic version 0x09 (shape.Fixed 16)
+  SQL-VARBINARY : Atomic version 0x0F (shape.Blob 10)
+  SQL-BINARY : Atomic version 0x0C (shape.Blob 5)
+  SQL-IMAGE : Atomic version 0x17 (shape.Blob 10)
+  SQL-CHAR : Atomic version 0x0D (shape.CodePage 5)
+  SQL-VARCHAR : Atomic version 0x10 (shape.CodePage 10)
+  SQL-TEXT : Atomic version 0x16 (shape.CodePage 10)
+  SQL-NVARCHAR : Atomic version 0x11 (shape.Text 10)
+  SQL-NCHAR : Atomic version 0x0E (shape.Text 5)
+  SQL-NTEXT : Atomic version 0x18 (shape.Text 10)
+  SQL-UDT : Atomic version 0x1B (shape.Blob 5)
+  XSD-BOOLEAN : Atomic version 0x86 (shape.Fixed 1)
+  XSD-TIME : Atomic version 0x81 (shape.Stamp 0)
+  XSD-DATETIME : Atomic version 0x82 (shape.Stamp 2)
+  XSD-DATE : Atomic version 0x83 (shape.Stamp 1)
+  XSD-BINHEX : Atomic version 0x84 (shape.Blob 5)
+  XSD-BASE64 : Atomic version 0x85 (shape.Blob 5)
+  XSD-DECIMAL : Atomic version 0x87 shape.Decimal
+  XSD-BYTE : Atomic version 0x88 (shape.Fixed 1)
+  XSD-UNSIGNEDSHORT : Atomic version 0x89 (shape.Fixed 2)
+  XSD-UNSIGNEDINT : Atomic version 0x8A (shape.Fixed 4)
+  XSD-UNSIGNEDLONG : Atomic version 0x8B (shape.Fixed 8)
+  XSD-QNAME : Atomic version 0x8C shape.Qname
+  XSD-DATE2 : version ≡ 2 → Atomic version 0x7F (shape.Date 0 3652058)
+  XSD-DATETIME2 : version ≡ 2 → Atomic version 0x7E (shape.Time 0 3652058)
+  XSD-TIME2 : version ≡ 2 → Atomic version 0x7D (shape.Time 693595 693595)
+  XSD-DATEOFFSET : version ≡ 2 → Atomic version 0x7C (shape.ZonedTime 0 3652058)
+  XSD-DATETIMEOFFSET : version ≡ 2 → Atomic version 0x7B (shape.ZonedTime 0 3652058)
+  XSD-TIMEOFFSET : version ≡ 2 → Atomic version 0x7A (shape.ZonedTime 0 16777215)
+
+-- ---- a point of a derivation: the place in the document, what is in force there, and the rows so far (01, "Rows"); and the
+-- points that tokens lead to
+
+-- the version, and the rows of the names and of the qnames in force in the order of their numbers, are those of the
+-- innermost document; the rows are those of the whole document
+pub record Point : Type 0 where
+  pub at : ℕ
+  pub version : ℕ
+  pub known : List ℕ
+  pub qknown : List ℕ
+  pub names : List NameRow
+  pub qnames : List QnameRow
+  pub events : List EventRow
+
+abbrev pub point : ℕ → ℕ → List ℕ → List ℕ → List NameRow → List QnameRow → List EventRow → Point
+point at version known qknown names qnames events =
+    record { at = at; version = version; known = known; qknown = qknown; names = names; qnames = qnames; events = events }
+
+-- the rows of a document
+pub record Rows : Type 0 where
+  pub names : List NameRow
+  pub qnames : List QnameRow
+  pub events : List EventRow
+
+abbrev pub rowsAt : Point → Rows
+rowsAt s = record { names = s .names; qnames = s .qnames; events = s .events }
+
+-- before the outer header
+abbrev pub blank : Point
+blank = point 0 0 [] [] [] [] []
+
+-- a row of events, and the place after what it stands for
+abbrev pub evented : Point → EventRow → ℕ → Point
+evented s e next = point next (s .version) (s .known) (s .qknown) (s .names) (s .qnames) (s .events ++ (e ∷ []))
+
+-- a token with a text: FE, FD, FC, FB, FA, F9, F3, F2
+abbrev pub texted : Point → ℕ → ℕ → ℕ → Point
+texted s token place units = evented s (event token (s .at) place units) (place + 2 * units)
+
+-- the standalone byte: token 0
+abbrev pub stoodAlone : Point → ℕ → Point
+stoodAlone s value = evented s (event 0 (s .at) value 0) (s .at + 1)
+
+-- F4: the target's row, and the place of the text's length
+abbrev pub instructed : Point → ℕ → ℕ → ℕ → Point
+instructed s target start next = evented s (event PI-TOKEN (s .at) (rowOf (s .known) target) start) next
+
+-- F8, F6, 8C: the qname's row
+abbrev pub referred : Point → ℕ → ℕ → ℕ → Point
+referred s token number next = evented s (event token (s .at) (rowOf (s .qknown) number) 0) next
+
+-- F7, F5, F1
+abbrev pub ended : Point → ℕ → Point
+ended s token = evented s (event token (s .at) 0 0) (s .at + 1)
+
+-- other values: the payload
+abbrev pub valued : Point → ℕ → ℕ → ℕ → Point
+valued s token place size = evented s (event token (s .at) place size) (place + size)
+
+-- F0: a row of names, which has the next number
+abbrev pub named : Point → ℕ → ℕ → Point
+named s place units =
+    point (place + 2 * units) (s .version) (s .known ++ ((length (s .names) + 1) ∷ [])) (s .qknown) (s .names ++ (nameRow place units ∷ []))
+    (s .qnames) (s .events)
+
+-- EF: a row of qnames, which has the next number
+abbrev pub qnamed : Point → ℕ → ℕ → ℕ → ℕ → Point
+qnamed s uri prefix local next =
+    point next (s .version) (s .known) (s .qknown ++ ((length (s .qnames) + 1) ∷ [])) (s .names)
+    (s .qnames ++ (qnameRow (rowOf (s .known) uri) (rowOf (s .known) prefix) (rowOf (s .known) local) ∷ [])) (s .events)
+
+-- EA
+abbrev pub moved : Point → ℕ → Point
+moved s next = point next (s .version) (s .known) (s .qknown) (s .names) (s .qnames) (s .events)
+
+-- E9: both counts restart
+abbrev pub flushed : Point → Point
+flushed s = point (s .at + 1) (s .version) [] [] (s .names) (s .qnames) (s .events)
+
+-- a header: its document starts with no names
+abbrev pub headed : Point → ℕ → Point
+headed s version = point (s .at + 5) version [] [] (s .names) (s .qnames) (s .events)
+
+-- EC, whose row has the version of the nested document
+abbrev pub nesting : Point → ℕ → Point
+nesting s version = evented s (event NEST-TOKEN (s .at) version 0) (s .at + 1)
+
+-- EB: what was in force before the nested document is so again
+abbrev pub returned : Point → Point → Point
+returned s t = point (t .at + 1) (s .version) (s .known) (s .qknown) (t .names) (t .qnames) (t .events ++ (event ENDNEST-TOKEN (t .at) 0 0 ∷ []))
+
+-- ---- the nonterminals: a derivation leads from a point to a point; its depth is what it has open at most
 
 -- *R and [R]
 pub data Star (R : Point → Point → Type 0) : Point → Point → Type 0 where
@@ -205,3 +422,20 @@ module _ (doc : List ℕ) where
     pub names-few : length (rows .names) ≤ room .names
     pub qnames-few : length (rows .qnames) ≤ room .qnames
     pub events-few : length (rows .events) ≤ room .events
+
+-- ---- what reading has accepted, in these terms: its answer, the outer version and the rows
+
+-- the rows that a reading has completed
+abbrev pub rowsIn : State → Rows
+rowsIn s = record { names = s .names; qnames = s .qnames; events = s .events }
+
+-- reading answers 0 at the document's length, with this version and these rows
+pub record Accepts (doc : List ℕ) (room : Room) (version : ℕ) (rows : Rows) : Type 0 where
+  pub number-is : reading doc room .number ≡ accepted
+  pub place-is : reading doc room .place ≡ length doc
+  pub version-is : reading doc room .version ≡ version
+  pub rows-are : rowsIn (reading doc room .final) ≡ rows
+
+-- the events of some rows, names by text
+abbrev pub eventsDerived : List ℕ → Rows → List Event
+eventsDerived doc rows = map (eventOf doc (rows .names) (rows .qnames)) (rows .events)

@@ -3,8 +3,7 @@
 // pairs.
 ghost use mathlib.Core.Path.{_≡_};
 ghost use lib.ListN.{length};
-ghost use Rattle.machine.specs.Machine.{reading};
-ghost use Rattle.machine.specs.Contract.{roomIn};
+ghost use Rattle.machine.specs.Machine.{reading, roomIn};
 ghost use Rattle.machine.specs.Tables.{Filled};
 ghost use Prim.Native.Nat.{_≤_};
 ghost use Rattle.render.specs.Render.{roomFor};

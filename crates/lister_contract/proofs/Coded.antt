@@ -10,8 +10,7 @@ use native.Mathlib.Omega.{arith}
 use lib.Dec.{eqb, ltb}
 use lib.ListN.{getElem?}
 use borrow.Author.Tests.{eqb-true, ltb-true}
-use Rattle.sequences.specs.Lists.{Bytes, part, same}
-use Rattle.sequences.specs.Members.{Every, none, first}
+use Rattle.sequences.specs.Lists.{Bytes, part, same, Every, none, first}
 use Rattle.sequences.proofs.Tests.{cond-if, and-left, and-right}
 use Rattle.sequences.proofs.Units.{bytes-take, bytes-drop}
 use Rattle.sequences.proofs.Members.{every-append}
@@ -19,16 +18,14 @@ use Rattle.token.specs.Tokens.{Token, token, tokens, find, classOf}
 use Rattle.token.specs.declared.Class.{Class}
 use Rattle.token.specs.declared.Class.the-variants as class
 use Rattle.token.specs.declared.Shape.the-variants.{Nothing}
-use Rattle.machine.specs.Rows.{NameRow, QnameRow, EventRow}
-use Rattle.machine.specs.Events.{Event, texted, standalone, pi, qnamed, valued, nest, plain, textIn, nameText, qnameIn, qnameEvent, eventBy, eventOf}
+use Rattle.machine.specs.Machine.{NameRow, QnameRow, EventRow, Event, texted, standalone, pi, qnamed, valued, nest, plain, textIn, nameText, qnameIn, qnameEvent, eventBy, eventOf}
 use Rattle.machine.specs.Tables.{nameRowsIn, qnameRowsIn, eventRowsIn, eventsIn}
 use Rattle.machine.proofs.Tables.{at-inside, length-name-rows}
 use Rattle.plan.specs.Text.{textOf}
 use Rattle.classes.specs.Classes.{textsOf}
 use Rattle.classes.proofs.Classes as classes
 use Rattle.classes.proofs.Classes.{number-empty, number-some, same-class, name-known, name-text-at, length-texts}
-use Rattle.meaning.specs.Meaning.{Symbol, unit, opening, ending, attribute, closing, value, qname, Attribute, none-open, counted, skipped, declares, closed, unless, shownAs, namedSymbols, plainSymbols, symbolsOf, attributeAfter, depthAfter, inside, begins, onto, newIf, pieces, rest, meanings, sameMeaning}
-use Rattle.meaning.specs.Pairs.{pairsOf}
+use Rattle.meaning.specs.Meaning.{Symbol, unit, opening, ending, attribute, closing, value, qname, Attribute, none-open, counted, skipped, declares, closed, unless, shownAs, namedSymbols, plainSymbols, symbolsOf, attributeAfter, depthAfter, inside, begins, onto, newIf, pieces, rest, meanings, sameMeaning, pairsOf}
 use Rattle.meaning.specs.Codes.{codesOf, Classes, Coded}
 use Rattle.meaning.proofs.Codes.{codes-pairs}
 use Rattle.render.specs.Render.{Renderable}

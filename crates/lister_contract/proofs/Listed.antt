@@ -9,12 +9,10 @@ use lib.Dec.{ltb, eqb}
 use lib.ListN.{length}
 use Rattle.sequences.specs.Lists.{overlay, Bytes, same}
 use Rattle.sequences.proofs.Tests.{tests}
-use Rattle.token.specs.Answers.{accepted, noPairs}
-use Rattle.machine.specs.Machine.{Result}
-use Rattle.machine.specs.Contract.{Reads}
+use Rattle.token.specs.Tokens.{accepted, noPairs}
+use Rattle.machine.specs.Machine.{Result, Reads}
 use Rattle.machine.specs.declared.Answer as reader-answer
-use Rattle.meaning.specs.Meaning.{sameMeaning, meanings}
-use Rattle.meaning.specs.Pairs.{pairsOf, flatPairs}
+use Rattle.meaning.specs.Meaning.{sameMeaning, meanings, pairsOf, flatPairs}
 use Rattle.twins.specs.Parts.{partsOf}
 use Rattle.render.specs.Render.{Renderable, Rendered}
 use Rattle.lister_contract.specs.declared.Answer.{Answer}

@@ -10,30 +10,22 @@ use lib.Dec.{ltb, eqb}
 use lib.ListN.{length, getD, getElem?, take, drop}
 use lib.Seq.{take-at}
 use borrow.Author.Tests.{eqb-true, ltb-true, ltb-false, le-ltb}
-use Rattle.sequences.specs.Lists.{overlay}
-use Rattle.sequences.specs.Members.{In, here, there}
+use Rattle.sequences.specs.Lists.{overlay, In, here, there}
 use Rattle.sequences.proofs.Tests.{tests}
 use Rattle.sequences.proofs.Members.{in-first}
 use Rattle.number.specs.Number.{front, numberAt}
-use Rattle.token.specs.Answers.{accepted, noPairs}
-use Rattle.token.specs.Tokens.{classOf, shapeOf}
+use Rattle.token.specs.Tokens.{accepted, noPairs, classOf, shapeOf}
 use Rattle.rules.specs.Rules.{lawful}
 use Rattle.value.specs.Fields.{needed, textAt, extentAt, fieldAt}
-use Rattle.fields.specs.References.{nameAt, qnameAt}
-use Rattle.fields.specs.Headers.{headerAt}
+use Rattle.fields.specs.Fields.{nameAt, qnameAt, headerAt}
 use Rattle.scan.specs.Steps.{eventDue, textStep, nameStep, qnameStep, extensionStep, piStep, elementStep, attributeStep, valueStep, nestStep, classStep, tokenStep, declaredStep, endStep, stepAt}
 use Rattle.scan.specs.declared.Room.{Room}
-use Rattle.machine.specs.Machine.{Result, run, reading}
+use Rattle.machine.specs.Machine.{Result, run, reading, nameText, eventOf, eventsOf}
 use Rattle.machine.specs.Examples.{H, full}
-use Rattle.machine.specs.Events.{nameText, eventOf, eventsOf}
 use Rattle.plan.specs.Text.{kindOf, shown, textOf}
-use Rattle.grammar.specs.Points.{Rows}
-use Rattle.grammar.specs.Grammar.{Derives}
-use Rattle.grammar.specs.Accepts.{eventsDerived}
+use Rattle.grammar.specs.Grammar.{Rows, Derives, eventsDerived}
 use Rattle.grammar.proofs.Exact.{derived-accepts, events-agree}
-use Rattle.meaning.specs.Meaning.{declares, namedSymbols, plainSymbols, depthAfter, pieces, meanings, sameSymbol, sameMeaning}
-use Rattle.meaning.specs.Pairs.{Pair, pair, equalTo, pairsFrom, pairsOf, flatPairs, Ascending, Once}
-use Rattle.meaning.specs.Recut.{Recut}
+use Rattle.meaning.specs.Meaning.{declares, namedSymbols, plainSymbols, depthAfter, pieces, meanings, sameSymbol, sameMeaning, Pair, pair, equalTo, pairsFrom, pairsOf, flatPairs, Ascending, Once, Recut}
 use Rattle.meaning.proofs.Same.{same-meaning}
 use Rattle.meaning.proofs.Exact.{exact, ordered, once}
 use Rattle.meaning.proofs.Recut.{recut-meanings}

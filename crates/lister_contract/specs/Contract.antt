@@ -7,12 +7,9 @@ use mathlib.Core.List.{List}
 use lib.Dec.{ltb, eqb}
 use lib.ListN.{length}
 use Rattle.sequences.specs.Lists.{overlay}
-use Rattle.token.specs.Answers.{accepted, noPairs}
-use Rattle.machine.specs.Rows.{flatNames, flatQnames, flatEvents}
-use Rattle.machine.specs.Machine.{Result}
-use Rattle.machine.specs.Events.{eventsOf}
-use Rattle.meaning.specs.Meaning.{Symbol, meanings, sameMeaning}
-use Rattle.meaning.specs.Pairs.{Pair, pairsOf, flatPairs}
+use Rattle.token.specs.Tokens.{accepted, noPairs}
+use Rattle.machine.specs.Machine.{flatNames, flatQnames, flatEvents, Result, eventsOf}
+use Rattle.meaning.specs.Meaning.{Symbol, meanings, sameMeaning, Pair, pairsOf, flatPairs}
 use Rattle.lister_contract.specs.declared.Answer.{Answer}
 
 abbrev pub answer : ℕ → ℕ → ℕ → ℕ → Answer

@@ -8,8 +8,7 @@ use lib.ListN.{length}
 use Rattle.sequences.specs.Lists.{overlay}
 use Rattle.machine.specs.declared.Answer as reader-answer
 use Rattle.machine.specs.Tables.{eventsIn}
-use Rattle.meaning.specs.Meaning.{Symbol, meanings, sameMeaning}
-use Rattle.meaning.specs.Pairs.{Pair, pairsOf, flatPairs}
+use Rattle.meaning.specs.Meaning.{Symbol, meanings, sameMeaning, Pair, pairsOf, flatPairs}
 use Rattle.lister_contract.specs.declared.Answer.{Answer}
 use Rattle.lister_contract.specs.Contract.{pairRoom, pairsJudged}
 

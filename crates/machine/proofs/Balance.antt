@@ -18,8 +18,7 @@ use Rattle.modes.specs.declared.Mode.the-variants.{Tag, First, Prolog, AfterDoc
 use Rattle.modes.specs.declared.View.{View}
 use Rattle.scan.specs.declared.Room.{Room}
 use Rattle.scan.specs.declared.Step.{Step}
-use Rattle.machine.specs.Rows.{EventRow}
-use Rattle.machine.specs.Machine.{Scope, State, view, elementsIn, returned, apply, reading}
+use Rattle.machine.specs.Machine.{EventRow, Scope, State, view, elementsIn, returned, apply, reading}
 use Rattle.machine.specs.Balance.{Opened, opened, nothingOpen, total, takenBy, taken, andThen, check, AtMost}
 use Rattle.machine.proofs.Goes.{Goes}
 use Rattle.machine.proofs.Trace.{kept}

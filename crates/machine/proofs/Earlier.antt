@@ -7,8 +7,7 @@ use Rattle.scan.specs.declared.Room.{Room}
 use Rattle.scan.specs.declared.Step.{Step}
 use Rattle.scan.specs.declared.Step.the-variants as step
 use Rattle.scan.proofs.Fine.{found-fine}
-use Rattle.machine.specs.Rows.{NameRow, QnameRow, EventRow}
-use Rattle.machine.specs.Machine.{Scope, State, view, returned, apply, started}
+use Rattle.machine.specs.Machine.{NameRow, QnameRow, EventRow, Scope, State, view, returned, apply, started}
 use Rattle.machine.specs.Facts.{RowsFit}
 use Rattle.machine.proofs.Trace as trace
 use Rattle.machine.proofs.Trace.{Trace, kept}

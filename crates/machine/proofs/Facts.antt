@@ -8,7 +8,7 @@ use native.Mathlib.Omega.{arith}
 use lib.Dec.{eqb}
 use lib.ListN.{length, getD, length-append}
 use borrow.Author.Tests.{eqb-true}
-use Rattle.sequences.specs.Members.{Every, none, first}
+use Rattle.sequences.specs.Lists.{Every, none, first}
 use Rattle.sequences.proofs.Members.{every-append, every-weaken, every-getD}
 use Rattle.token.specs.Tokens.{classOf, shapeOf}
 use Rattle.token.specs.declared.Class.{Class}
@@ -26,8 +26,7 @@ use Rattle.modes.specs.declared.Mode.{Mode}
 use Rattle.scan.specs.declared.Room.{Room}
 use Rattle.scan.specs.declared.Step.{Step}
 use Rattle.scan.proofs.Fine.{found-fine}
-use Rattle.machine.specs.Rows.{QnameRow, EventRow, nameRow, event}
-use Rattle.machine.specs.Machine.{Scope, scope, State, state, view, rowOf, onward, returned, apply, started, reading}
+use Rattle.machine.specs.Machine.{QnameRow, EventRow, nameRow, event, Scope, scope, State, state, view, rowOf, onward, returned, apply, started, reading}
 use Rattle.machine.specs.Facts as facts
 use Rattle.machine.specs.Facts.{oneOf, textTokens, qnameTokens, QnameFits, EventFits, Placed, RowsFit}
 use Rattle.machine.proofs.Goes.{Goes}

@@ -8,8 +8,8 @@ use native.Mathlib.Omega.{arith}
 use lib.Dec.{ltb}
 use lib.ListN.{length}
 use borrow.Author.Tests.{ltb-true, ltb-false}
-use Rattle.token.specs.Answers.{tooLong, longest}
-use Rattle.fields.specs.Headers.{headerAt}
+use Rattle.token.specs.Tokens.{tooLong, longest}
+use Rattle.fields.specs.Fields.{headerAt}
 use Rattle.fields.specs.declared.Header.{Header}
 use Rattle.fields.specs.declared.Header.the-variants as header
 use Rattle.modes.specs.declared.View.{View}

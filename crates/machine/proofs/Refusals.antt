@@ -8,7 +8,7 @@ use lib.Dec.{ltb, leb}
 use lib.ListN.{length, getD, drop}
 use Rattle.sequences.specs.Lists.{part}
 use Rattle.sequences.proofs.Tests.{cond-if}
-use Rattle.token.specs.Answers.{largest}
+use Rattle.token.specs.Tokens.{largest}
 use Rattle.token.specs.declared.Shape.{Shape}
 use Rattle.token.specs.declared.Shape.the-variants.{Nothing, Fixed, Text, Blob, CodePage, Decimal, Qname, Stamp, Date, Time, ZonedTime}
 use Rattle.number.specs.Number.{NumberFront, spelled, unended, cut, front, numberAt}
@@ -22,8 +22,7 @@ use Rattle.value.specs.declared.Text as declared
 use Rattle.value.specs.declared.Text.the-variants as text
 use Rattle.value.specs.declared.Field.{Field}
 use Rattle.value.specs.declared.Field.the-variants.{Payload, Reference, Refused}
-use Rattle.fields.specs.References.{nameAfter, nameAt, qnameAfter, qnameAt}
-use Rattle.fields.specs.Headers.{headerJudged, headerAt}
+use Rattle.fields.specs.Fields.{nameAfter, nameAt, qnameAfter, qnameAt, headerJudged, headerAt}
 use Rattle.fields.specs.declared.Name.{Name}
 use Rattle.fields.specs.declared.Name.the-variants as name
 use Rattle.fields.specs.declared.Qname as qnames

@@ -4,8 +4,8 @@ use mathlib.Core.Path.{_≡_, refl, ap}
 use mathlib.Core.List.{List, [], _∷_, _++_}
 use native.Mathlib.Omega.{arith}
 use lib.ListN.{length}
-use Rattle.machine.specs.Rows.{NameRow, QnameRow, EventRow, flatNames, flatQnames, flatEvents}
-use Rattle.token.specs.Answers.{nameWidth, qnameWidth, eventWidth}
+use Rattle.machine.specs.Machine.{NameRow, QnameRow, EventRow, flatNames, flatQnames, flatEvents}
+use Rattle.token.specs.Tokens.{nameWidth, qnameWidth, eventWidth}
 
 pub length-names : (rs : List NameRow) → length (flatNames rs) ≡ nameWidth * length rs
 length-names [] = refl

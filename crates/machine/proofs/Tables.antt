@@ -7,12 +7,11 @@ use mathlib.Core.List.{List, [], _∷_, _++_, map}
 use native.Mathlib.Omega.{arith}
 use lib.ListN.{length, getD, getElem?, drop}
 use lib.Seq.{getD-drop}
-use Rattle.sequences.specs.Lists.{overlay}
-use Rattle.machine.specs.Rows.{NameRow, QnameRow, EventRow, nameRow, qnameRow, event, flatNames, flatQnames, flatEvents}
-use Rattle.sequences.specs.Members.{Every, first, none}
+use Rattle.sequences.specs.Lists.{overlay, Every, first, none}
+use Rattle.machine.specs.Machine.{NameRow, QnameRow, EventRow, nameRow, qnameRow, event, flatNames, flatQnames, flatEvents}
 use Rattle.machine.specs.Facts.{none, NameFits}
 use Rattle.machine.specs.Tables.{nameRowsIn, qnameRowsIn, eventRowsIn, NamesInside}
-use Rattle.token.specs.Answers.{qnameWidth, eventWidth}
+use Rattle.token.specs.Tokens.{qnameWidth, eventWidth}
 
 -- an element that stands somewhere
 module _ {A : Type 0} where

@@ -6,8 +6,8 @@ use mathlib.Core.List.{List, [], _∷_}
 use native.Mathlib.Omega.{arith}
 use lib.ListN.{length}
 use borrow.Author.Tests.{le-ltb}
-use Rattle.token.specs.Answers.{longest}
-use Rattle.fields.specs.Headers.{headerAt}
+use Rattle.token.specs.Tokens.{longest}
+use Rattle.fields.specs.Fields.{headerAt}
 use Rattle.fields.specs.Bounds.{HeaderWithin}
 use Rattle.fields.specs.declared.Header.{Header}
 use Rattle.fields.specs.declared.Header.the-variants as header

@@ -4,8 +4,8 @@ use mathlib.Core.Path.{_≡_, sym, _∙_, ap}
 use mathlib.Core.List.{List}
 use lib.ListN.{length}
 use Rattle.sequences.proofs.Tests.{tests}
-use Rattle.token.specs.Answers.{tooLong, longest}
-use Rattle.fields.specs.Headers.{headerAt}
+use Rattle.token.specs.Tokens.{tooLong, longest}
+use Rattle.fields.specs.Fields.{headerAt}
 use Rattle.fields.specs.declared.Header.{Header}
 use Rattle.scan.specs.declared.Room.{Room}
 use Rattle.machine.specs.Machine.{result, blank, begun, reading}

@@ -7,11 +7,10 @@ use mathlib.Core.Option.{Option, none, some}
 use mathlib.Core.Path.{_≡_}
 use lib.Dec.{ltb, leb, eqb}
 use lib.ListN.{length}
-use Rattle.token.specs.Answers.{openElements, nestedDocuments}
-use Rattle.token.specs.Tokens.{classOf}
+use Rattle.token.specs.Tokens.{openElements, nestedDocuments, classOf}
 use Rattle.token.specs.declared.Class.{Class}
 use Rattle.token.specs.declared.Class.the-variants as class
-use Rattle.machine.specs.Rows.{EventRow}
+use Rattle.machine.specs.Machine.{EventRow}
 
 -- what is open: the elements of each open document, the innermost first; an attribute list; a CDATA section
 pub record Opened : Type 0 where

@@ -7,15 +7,13 @@ use mathlib.Core.Bool.{Bool, true, false, _||_}
 use mathlib.Core.List.{List, [], _∷_, _++_}
 use lib.Dec.{eqb}
 use lib.ListN.{length}
-use Rattle.sequences.specs.Members.{Every}
-use Rattle.token.specs.Tokens.{classOf, shapeOf}
+use Rattle.sequences.specs.Lists.{Every}
+use Rattle.token.specs.Tokens.{classOf, shapeOf, XMLDECL-TOKEN, ENCODING-TOKEN, DOCTYPEDECL-TOKEN, SYSTEM-TOKEN, PUBLIC-TOKEN, SUBSET-TOKEN, COMMENT-TOKEN, CDATA-TOKEN, ELEMENT-TOKEN, ATTRIBUTE-TOKEN, XSD-QNAME, ENDELEMENT-TOKEN, ENDATTRIBUTES-TOKEN, CDATAEND-TOKEN, ENDNEST-TOKEN, PI-TOKEN, NEST-TOKEN}
 use Rattle.token.specs.declared.Class.the-variants as class
-use Rattle.token.specs.Codes.{XMLDECL-TOKEN, ENCODING-TOKEN, DOCTYPEDECL-TOKEN, SYSTEM-TOKEN, PUBLIC-TOKEN, SUBSET-TOKEN, COMMENT-TOKEN, CDATA-TOKEN, ELEMENT-TOKEN, ATTRIBUTE-TOKEN, XSD-QNAME, ENDELEMENT-TOKEN, ENDATTRIBUTES-TOKEN, CDATAEND-TOKEN, ENDNEST-TOKEN, PI-TOKEN, NEST-TOKEN}
 use Rattle.value.specs.Fields.{textAt, fieldAt}
 use Rattle.value.specs.declared.Text.the-variants as text
 use Rattle.value.specs.declared.Field.the-variants as field
-use Rattle.machine.specs.Rows.{NameRow, QnameRow, EventRow, event}
-use Rattle.machine.specs.Machine.{State}
+use Rattle.machine.specs.Machine.{NameRow, QnameRow, EventRow, event, State}
 
 -- a number is one of a list's
 abbrev pub oneOf : List ℕ → ℕ → Bool

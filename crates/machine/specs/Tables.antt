@@ -2,11 +2,10 @@
 use Prim.Native.Nat.{ℕ, zero, suc, _+_, _*_, _≤_, _<_}
 use mathlib.Core.List.{List, [], _∷_, map}
 use lib.ListN.{length, getD, drop}
-use Rattle.machine.specs.Rows.{NameRow, QnameRow, EventRow, nameRow, qnameRow, event}
-use Rattle.machine.specs.Events.{Event, eventOf}
-use Rattle.sequences.specs.Members.{Every}
+use Rattle.machine.specs.Machine.{NameRow, QnameRow, EventRow, nameRow, qnameRow, event, Event, eventOf}
+use Rattle.sequences.specs.Lists.{Every}
 use Rattle.machine.specs.Facts.{NameFits, QnameFits, Placed}
-use Rattle.token.specs.Answers.{nameWidth, qnameWidth, eventWidth}
+use Rattle.token.specs.Tokens.{nameWidth, qnameWidth, eventWidth}
 
 -- the rows that stand in the front of a lent table of numbers (01, "Rows")
 abbrev pub nameRowsIn : ℕ → List ℕ → List NameRow

@@ -12,7 +12,7 @@ use Rattle.classes.specs.Search.{classAt}
 use Rattle.meaning.specs.Codes.{mark}
 use Rattle.marks.specs.Names.{pairOf, declaresAt}
 use Rattle.marks.specs.Marks.{markOf, MarksOf}
-use Rattle.token.specs.Answers.{qnameWidth}
+use Rattle.token.specs.Tokens.{qnameWidth}
 
 -- ---- a row's mark
 

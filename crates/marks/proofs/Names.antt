@@ -7,14 +7,14 @@ use mathlib.Core.List.{List, [], _∷_}
 use native.Mathlib.Omega.{arith}
 use lib.ListN.{length, getD, getElem?, take, drop}
 use Rattle.sequences.specs.Lists.{same}
-use Rattle.machine.specs.Events.{nameText}
+use Rattle.machine.specs.Machine.{nameText}
 use Rattle.machine.specs.Tables.{nameRowsIn}
 use Rattle.machine.proofs.Tables.{name-row-at, every-at}
 use Rattle.classes.specs.Search.{classAt}
 use Rattle.classes.proofs.Classes.{class-empty, name-text-at}
 use Rattle.meaning.specs.Meaning.{declares, xmlns}
 use Rattle.marks.specs.Names.{classIn, uriAt, prefixAt, Named, declaresAt, xmlnsColon}
-use Rattle.token.specs.Answers.{qnameWidth}
+use Rattle.token.specs.Tokens.{qnameWidth}
 
 -- ---- attributes that declare a prefix
 

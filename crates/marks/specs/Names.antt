@@ -4,16 +4,16 @@ use Prim.Native.Nat.{ℕ, _+_, _*_, _≤_, _-_}
 use mathlib.Core.Path.{_≡_}
 use mathlib.Core.List.{List, [], _∷_, _++_}
 use lib.ListN.{length, getD}
-use Rattle.machine.specs.Events.{nameText}
-use Rattle.sequences.specs.Members.{Every}
+use Rattle.machine.specs.Machine.{nameText}
+use Rattle.sequences.specs.Lists.{Every}
 use Rattle.machine.specs.Facts.{NameFits}
 use Rattle.machine.specs.Tables.{nameRowsIn}
-use Rattle.form.specs.Places.{numberOf}
+use Rattle.form.specs.Canonical.{numberOf}
 use Rattle.classes.specs.Classes.{textsOf}
 use Rattle.meaning.specs.Meaning.{declares, xmlns}
 use mathlib.Core.Bool.{Bool}
 use Rattle.classes.specs.Search.{classAt, Keyable}
-use Rattle.token.specs.Answers.{nameWidth, qnameWidth}
+use Rattle.token.specs.Tokens.{nameWidth, qnameWidth}
 
 -- the class of a text among those of the rows of names
 abbrev pub classIn : List ℕ → List ℕ → ℕ → List ℕ → ℕ

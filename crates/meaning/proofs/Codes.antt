@@ -7,13 +7,11 @@ use mathlib.Core.List.{List, [], _∷_, _++_, map, append-assoc}
 use mathlib.Core.Bool.{Bool, true, false}
 use native.Mathlib.Omega.{arith}
 use lib.ListN.{length, getD, length-append, length-map}
-use Rattle.sequences.specs.Lists.{Bytes, same}
-use Rattle.sequences.specs.Members.{Every, none, first, In, here, there}
+use Rattle.sequences.specs.Lists.{Bytes, same, Every, none, first, In, here, there}
 use Rattle.sequences.proofs.Units.{bytes-none, bytes-first, bytes-rest}
 use Rattle.sequences.proofs.Same.{same-list}
 use Rattle.sequences.proofs.Members.{in-none, in-cons, in-either}
-use Rattle.meaning.specs.Meaning.{Symbol, unit, opening, ending, attribute, closing, value, qname, sameMeaning}
-use Rattle.meaning.specs.Pairs.{pairsOf}
+use Rattle.meaning.specs.Meaning.{Symbol, unit, opening, ending, attribute, closing, value, qname, sameMeaning, pairsOf}
 use Rattle.meaning.specs.Codes.{mark, both, codeOf, codesOf, symbolSize, symbolSizes, Classes, Coded}
 use Rattle.meaning.proofs.Same.{same-meaning}
 use Rattle.meaning.proofs.Exact.{pairs-map}

@@ -9,9 +9,9 @@ use mathlib.Core.Option.{some}
 use native.Mathlib.Omega.{arith}
 use native.Mathlib.Nat.{eq-or-lt-of-le, sub-zero}
 use lib.ListN.{length, getElem?}
-use Rattle.sequences.specs.Members.{In, here, there}
+use Rattle.sequences.specs.Lists.{In, here, there}
 use Rattle.sequences.proofs.Members.{in-none, in-cons, in-first, in-left, in-right, in-either}
-use Rattle.meaning.specs.Pairs.{Pair, pair, equalTo, pairsFrom, pairsOf, Before, Ascending, Once}
+use Rattle.meaning.specs.Meaning.{Pair, pair, equalTo, pairsFrom, pairsOf, Before, Ascending, Once}
 use Rattle.meaning.proofs.Members.{pair-in, pair-is}
 
 some-is : {A : Type 0} {a b : A} → some a ≡ some b → a ≡ b

@@ -3,9 +3,9 @@ use Prim.Native.Nat.{ℕ}
 use mathlib.Core.Path.{_≡_, ap}
 use mathlib.Core.Logic.{_⊎_, ⊎-elim}
 use mathlib.Core.List.{List, [], _∷_, map}
-use Rattle.sequences.specs.Members.{In, there}
+use Rattle.sequences.specs.Lists.{In, there}
 use Rattle.sequences.proofs.Members.{in-none, in-cons, in-first}
-use Rattle.meaning.specs.Pairs.{Pair, pair}
+use Rattle.meaning.specs.Meaning.{Pair, pair}
 
 pub pair-in : (i j : ℕ) (xs : List ℕ) → In j xs → In (pair i j) (map (pair i) xs)
 pair-in i j [] w = absurd (in-none w)

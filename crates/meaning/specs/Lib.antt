@@ -1,4 +1,2 @@
 pub mod Meaning
-pub mod Pairs
-pub mod Recut
 pub mod Codes

@@ -1,16 +1,61 @@
--- Records and their meaning (01, "Meaning and canonical form"), from the events with names by text alone. A record is an
--- element with no element around it, nested documents included; its meaning is a list of marks and text units.
-use Prim.Native.Nat.{ℕ, zero, suc, _-_}
-use mathlib.Core.Bool.{Bool, true, false, cond, _&&_, _||_}
-use mathlib.Core.Option.{Option, none, some}
+-- Records, their meaning, and the pairs of records with equal meaning (01, "Meaning and canonical form").
+use Prim.Native.Nat.{ℕ, suc, _<_, zero, _-_}
+use mathlib.Core.Path.{_≡_}
+use mathlib.Core.Logic.{_⊎_}
+use mathlib.Core.Bool.{Bool, cond, true, false, _&&_, _||_}
 use mathlib.Core.List.{List, [], _∷_, _++_, map}
+use Rattle.sequences.specs.Lists.{In, same, unitsOf}
+use mathlib.Core.Option.{Option, none, some}
 use lib.Dec.{eqb}
 use lib.ListN.{take}
-use Rattle.sequences.specs.Lists.{same, unitsOf}
-use Rattle.machine.specs.Events.{Event, texted, standalone, pi, qnamed, valued, nest, plain}
+use Rattle.machine.specs.Machine.{Event, texted, standalone, pi, qnamed, valued, nest, plain}
 use Rattle.plan.specs.Text.{textOf}
-use Rattle.token.specs.Codes.{ELEMENT-TOKEN, ATTRIBUTE-TOKEN, ENDELEMENT-TOKEN, ENDATTRIBUTES-TOKEN, CDATA-TOKEN}
+use Rattle.token.specs.Tokens.{ELEMENT-TOKEN, ATTRIBUTE-TOKEN, ENDELEMENT-TOKEN, ENDATTRIBUTES-TOKEN, CDATA-TOKEN}
 
+-- ---- the pairs of equal elements of a list (01, "Extracts worked by hand": each line is earlier, later record)
+
+-- places from 0, ordered by the earlier, then the later
+pub record Pair : Type 0 where
+  pub earlier : ℕ
+  pub later : ℕ
+
+abbrev pub pair : ℕ → ℕ → Pair
+pair earlier later = record { earlier = earlier; later = later }
+
+-- the places, counted from `j`, of the elements equal to `a`
+unfoldable pub equalTo : {A : Type 0} → (A → A → Bool) → A → ℕ → List A → List ℕ
+equalTo same a j [] = []
+equalTo same a j (b ∷ l) = cond (same a b) (j ∷ equalTo same a (suc j) l) (equalTo same a (suc j) l)
+
+unfoldable pub pairsFrom : {A : Type 0} → (A → A → Bool) → ℕ → List A → List Pair
+pairsFrom same i [] = []
+pairsFrom same i (a ∷ l) = map (pair i) (equalTo same a (suc i) l) ++ pairsFrom same (suc i) l
+
+unfoldable pub pairsOf : {A : Type 0} → (A → A → Bool) → List A → List Pair
+pairsOf same l = pairsFrom same 0 l
+
+-- the numbers of a list of pairs, pair after pair
+abbrev pub flatPairs : List Pair → List ℕ
+flatPairs [] = []
+flatPairs (p ∷ ps) = p .earlier ∷ p .later ∷ flatPairs ps
+
+-- the order of pairs: by the earlier place, then by the later
+abbrev pub Before : Pair → Pair → Type 0
+Before p q = (p .earlier < q .earlier) ⊎ ((p .earlier ≡ q .earlier) × (p .later < q .later))
+
+-- each pair stands before all that follow it
+abbrev pub Ascending : List Pair → Type 0
+Ascending [] = Unit
+Ascending (p ∷ ps) = ((q : Pair) → In q ps → Before p q) × Ascending ps
+
+-- no pair stands in the list again
+abbrev pub Once : List Pair → Type 0
+Once [] = Unit
+Once (p ∷ ps) = (In p ps → ⊥) × Once ps
+
+-- ---- records and their meaning, from the events with names by text alone
+
+-- a record is an element with no element around it, nested documents included; its meaning is a list of marks and text units
 pub data Symbol : Type 0 where
   -- a unit of text, of a value or of CDATA
   unit : ℕ → Symbol
@@ -180,3 +225,26 @@ sameMeaning [] [] = true
 sameMeaning [] (y ∷ m) = false
 sameMeaning (x ∷ l) [] = false
 sameMeaning (x ∷ l) (y ∷ m) = sameSymbol x y && sameMeaning l m
+
+-- ---- texts cut otherwise: "the same events, except that any run of neighbouring values with text, or of CDATA chunks, may stand
+-- as another such run with the same joined text"
+
+-- a run of values that have a text, with the units of their joined text
+pub data ValueRun : List Event → List ℕ → Type 0 where
+  no-value : ValueRun [] []
+  one-value : {token : ℕ} {payload units : List ℕ} {es : List Event} {joined : List ℕ}
+      → textOf token payload ≡ some units → ValueRun es joined → ValueRun (valued token payload ∷ es) (units ++ joined)
+
+-- a run of CDATA chunks, with the units of their joined text
+pub data ChunkRun : List Event → List ℕ → Type 0 where
+  no-chunk : ChunkRun [] []
+  one-chunk : {text : List ℕ} {es : List Event} {joined : List ℕ} → ChunkRun es joined → ChunkRun (texted CDATA-TOKEN text ∷ es) (unitsOf text ++ joined)
+
+-- the same events, except for how such runs are cut
+pub data Recut : List Event → List Event → Type 0 where
+  no-event : Recut [] []
+  event : (e : Event) {es fs : List Event} → Recut es fs → Recut (e ∷ es) (e ∷ fs)
+  values : {us vs es fs : List Event} {joined : List ℕ}
+      → ValueRun us joined → ValueRun vs joined → Recut es fs → Recut (us ++ es) (vs ++ fs)
+  chunks : {us vs es fs : List Event} {joined : List ℕ}
+      → ChunkRun us joined → ChunkRun vs joined → Recut es fs → Recut (us ++ es) (vs ++ fs)

@@ -14,7 +14,7 @@ use Rattle.sequences.proofs.Overlay.{part-length}
 use Rattle.sequences.proofs.Tests.{cond-if}
 use Rattle.machine.specs.Tables.{nameRowsIn, NamesInside}
 use Rattle.machine.proofs.Tables.{name-row-at, length-name-rows}
-use Rattle.form.specs.Places.{numberOf}
+use Rattle.form.specs.Canonical.{numberOf}
 use Rattle.form.proofs.Places.{tells-text}
 use Rattle.classes.specs.Classes.{textHash, textsOf, nameClasses}
 use Rattle.classes.specs.Search.{rowTextAt, slotOf, Last, Chained}

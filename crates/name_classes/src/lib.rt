@@ -5,13 +5,12 @@ ghost use mathlib.Core.Bool.{cond};
 ghost use Prim.Native.Nat.{_+_, _*_, _%_, _≤_, _<_};
 ghost use lib.ListN.{length, getD};
 ghost use lib.Dec.{eqb};
-ghost use Rattle.sequences.specs.Lists.{Front, part, same};
-ghost use Rattle.sequences.specs.Members.{Every};
+ghost use Rattle.sequences.specs.Lists.{Front, part, same, Every};
 ghost use Rattle.machine.specs.Facts.{NameFits};
 ghost use Rattle.machine.specs.Tables.{nameRowsIn, NamesInside};
 ghost use Rattle.classes.specs.Classes.{nameClasses, textHash};
 ghost use Rattle.classes.specs.Search.{rowTextAt, slotOf, Last, Chained};
-ghost use Rattle.token.specs.Answers.{nameWidth};
+ghost use Rattle.token.specs.Tokens.{nameWidth};
 
 // The slots, as a hash has them.
 const MODULUS: u64 = classes::SLOTS as u64;

@@ -7,7 +7,7 @@ use native.Mathlib.Omega.{arith}
 use lib.ListN.{length, getD, drop, drop-of-length-le}
 use lib.Seq.{drop-cons}
 use Rattle.sequences.proofs.Tests.{tests}
-use Rattle.token.specs.Answers.{missing, badNumber, largest}
+use Rattle.token.specs.Tokens.{missing, badNumber, largest}
 use Rattle.number.specs.Number.{NumberFront, spelled, unended, cut, after, front, numberJudged, numberAt}
 use Rattle.number.specs.Bounds.{Within}
 use Rattle.number.specs.declared.Number.the-variants.{Is, Refused}

@@ -13,7 +13,7 @@ use lib.Dec.{ltb, leb}
 use Rattle.sequences.specs.Lists.{Bytes}
 use Rattle.sequences.proofs.Units.{bytes-first, bytes-rest}
 use Rattle.sequences.proofs.Tests.{tests}
-use Rattle.token.specs.Answers.{badNumber, largest}
+use Rattle.token.specs.Tokens.{badNumber, largest}
 use Rattle.number.specs.Number.{Spelling, low, high, valueOf, NumberFront, spelled, unended, cut, after, front, numberJudged, numberAt, spellIn, shortest, sizeOf}
 use Rattle.number.specs.declared.Number.the-variants.{Is, Refused}
 

@@ -7,7 +7,7 @@ use native.Mathlib.Omega.{arith}
 use lib.Dec.{ltb, leb}
 use lib.ListN.{length, drop, length-drop}
 use borrow.Author.Tests.{leb-true}
-use Rattle.token.specs.Answers.{largest, badNumber}
+use Rattle.token.specs.Tokens.{largest, badNumber}
 use Rattle.number.specs.Number.{NumberFront, spelled, unended, cut, after, front, numberJudged, numberAt}
 use Rattle.number.specs.Bounds.{Within}
 use Rattle.number.specs.declared.Number.{Number}

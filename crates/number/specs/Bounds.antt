@@ -1,6 +1,6 @@
 -- Serves the code. Bounds that a caller of `number::read` needs.
 use Prim.Native.Nat.{ℕ, _≤_, _<_}
-use Rattle.token.specs.Answers.{largest}
+use Rattle.token.specs.Tokens.{largest}
 use Rattle.number.specs.declared.Number.{Number}
 use Rattle.number.specs.declared.Number.the-variants.{Is, Refused}
 

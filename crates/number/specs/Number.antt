@@ -5,7 +5,7 @@ use mathlib.Core.Bool.{cond}
 use mathlib.Core.List.{List, [], _∷_}
 use lib.Dec.{ltb, leb}
 use lib.ListN.{length, drop}
-use Rattle.token.specs.Answers.{missing, badNumber, largest}
+use Rattle.token.specs.Tokens.{missing, badNumber, largest}
 use Rattle.number.specs.declared.Number.{Number}
 use Rattle.number.specs.declared.Number.the-variants.{Is, Refused}
 

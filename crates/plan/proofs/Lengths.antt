@@ -12,8 +12,7 @@ use borrow.Author.Tests.{leb-true}
 use Rattle.sequences.specs.Lists.{Bytes, little}
 use Rattle.sequences.proofs.Tests.{cond-if}
 use Rattle.sequences.proofs.Units.{bytes-drop, little-below}
-use Rattle.token.specs.Answers.{longest}
-use Rattle.token.specs.Tokens.{shapeOf}
+use Rattle.token.specs.Tokens.{longest, shapeOf}
 use Rattle.rules.specs.Rules.{lawful}
 use Rattle.numeral.specs.Numeral.{truth}
 use Rattle.chunks.specs.Chunks.{wordSize}

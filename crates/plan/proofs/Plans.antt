@@ -10,8 +10,7 @@ use lib.ListN.{length, getD, drop}
 use lib.Dec.{eqb, lit≤}
 use Rattle.sequences.specs.Lists.{little, unitsOf}
 use Rattle.sequences.proofs.Tests.{tests}
-use Rattle.token.specs.Answers.{longest}
-use Rattle.token.specs.Tokens.{shapeOf}
+use Rattle.token.specs.Tokens.{longest, shapeOf}
 use Rattle.token.specs.declared.Shape.{Shape}
 use Rattle.rules.specs.Rules.{decimalLawful, lawful}
 use Rattle.chunks.specs.declared.Chunks.{Chunks}

@@ -7,7 +7,7 @@ use mathlib.Core.Option.{Option, none, some}
 use mathlib.Core.List.{List, []}
 use lib.ListN.{length}
 use Rattle.sequences.specs.Lists.{unitsOf}
-use Rattle.token.specs.Answers.{longest}
+use Rattle.token.specs.Tokens.{longest}
 use Rattle.rules.specs.Rules.{decimalLawful}
 use Rattle.numeral.specs.Numeral.{numeral, truth}
 use Rattle.chunks.specs.Chunks.{wordSize, chunksValue, Chunked}

@@ -6,8 +6,7 @@ use mathlib.Core.List.{List, [], _∷_}
 use lib.ListN.{length, getD, drop}
 use lib.Dec.{leb, eqb}
 use Rattle.sequences.specs.Lists.{little, unitsOf}
-use Rattle.token.specs.Answers.{longest}
-use Rattle.token.specs.Tokens.{shapeOf}
+use Rattle.token.specs.Tokens.{longest, shapeOf}
 use Rattle.rules.specs.Rules.{lawful}
 use Rattle.numeral.specs.Numeral.{numeral, truth}
 use Rattle.hexadecimal.specs.Hexadecimal.{hex}

@@ -6,7 +6,7 @@ use native.Mathlib.Omega.{arith}
 use lib.ListN.{drop}
 use Rattle.numeral.specs.Numeral.{unlessZero, digitsIn, digits}
 use Rattle.numeral.proofs.Facts.{readFrom, digits-read-back}
-use Rattle.meaning.specs.Pairs.{Pair, pair}
+use Rattle.meaning.specs.Meaning.{Pair, pair}
 use Rattle.print_lines.specs.Lines.{line}
 use Rattle.machine.specs.Machine.{reading}
 use Rattle.machine.specs.Examples.{full}

@@ -5,11 +5,10 @@ use mathlib.Core.List.{List, [], _∷_, _++_}
 use lib.ListN.{length, take, drop}
 use Rattle.sequences.specs.Lists.{overlay}
 use Rattle.sequences.proofs.Tests.{tests}
-use Rattle.machine.specs.Machine.{reading}
+use Rattle.machine.specs.Machine.{reading, roomIn}
 use Rattle.machine.specs.Examples.{full}
-use Rattle.meaning.specs.Pairs.{Pair, flatPairs}
+use Rattle.meaning.specs.Meaning.{Pair, flatPairs}
 use Rattle.lister_contract.specs.declared.Answer.{Answer}
-use Rattle.machine.specs.Contract.{roomIn}
 use Rattle.lister_contract.specs.Contract.{pairsIn, pairRoom, listOf, Lists}
 use Rattle.lister_contract.proofs.Theorems.{accepted-both, answer-counts}
 use Rattle.print_lines.specs.Lines.{PutBefore, line, refusedWord, atWord}

@@ -6,11 +6,11 @@ use mathlib.Core.Bool.{cond}
 use mathlib.Core.List.{List, [], _∷_, _++_}
 use lib.Dec.{eqb}
 use lib.ListN.{getD, drop}
-use Rattle.token.specs.Answers.{accepted}
+use Rattle.token.specs.Tokens.{accepted}
 use Rattle.print_lines.specs.Lines.{line, refusedWord, atWord}
 use Rattle.machine.specs.Machine.{reading}
 use Rattle.machine.specs.Examples.{full}
-use Rattle.meaning.specs.Pairs.{Pair, pair}
+use Rattle.meaning.specs.Meaning.{Pair, pair}
 use Rattle.lister_contract.specs.declared.Answer.{Answer}
 use Rattle.lister_contract.specs.Contract.{listAnswer, pairsIn, listOf}
 

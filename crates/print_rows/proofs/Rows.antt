@@ -10,7 +10,7 @@ use Rattle.machine.specs.Tables.{nameRowsIn, qnameRowsIn, eventRowsIn}
 use Rattle.print_lines.specs.Lines.{PutBefore, field}
 use Rattle.print_lines.proofs.Laws.{none-put, both-put}
 use Rattle.print_rows.specs.Rows.{numbers, rowLine, nameWord, qnameWord, eventWord, tokenDigits, nameLines, qnameLines, eventLines}
-use Rattle.token.specs.Answers.{qnameWidth, eventWidth}
+use Rattle.token.specs.Tokens.{qnameWidth, eventWidth}
 
 -- ---- a loop that puts the lines of one row after the other
 

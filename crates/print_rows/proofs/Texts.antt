@@ -1,7 +1,7 @@
 -- The lines of all rows. Assumes nothing.
 use Prim.Native.Nat.{ℕ}
 use mathlib.Core.List.{List}
-use Rattle.machine.specs.Rows.{NameRow, QnameRow, EventRow}
+use Rattle.machine.specs.Machine.{NameRow, QnameRow, EventRow}
 use Rattle.print_lines.specs.Lines.{PutBefore}
 use Rattle.print_lines.proofs.Laws.{both-put}
 use Rattle.print_rows.specs.Rows.{nameLines, qnameLines, eventLines, rowLines}

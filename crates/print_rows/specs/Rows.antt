@@ -2,7 +2,7 @@
 use Prim.Native.Nat.{ℕ, _%_}
 use mathlib.Core.List.{List, [], _∷_, _++_}
 use Rattle.hexadecimal.specs.Hexadecimal.{hex}
-use Rattle.machine.specs.Rows.{NameRow, QnameRow, EventRow}
+use Rattle.machine.specs.Machine.{NameRow, QnameRow, EventRow}
 use Rattle.print_lines.specs.Lines.{field}
 
 -- "name", "qname", "event "

@@ -7,7 +7,7 @@ ghost use Rattle.sequences.specs.Lists.{part};
 ghost use Rattle.machine.specs.Tables.{nameRowsIn, qnameRowsIn, eventRowsIn};
 ghost use Rattle.print_lines.specs.Lines.{PutBefore};
 ghost use Rattle.print_rows.specs.Rows.{rowLine, tokenDigits, eventWord, nameLines, qnameLines, eventLines, rowLines};
-ghost use Rattle.token.specs.Answers.{nameWidth, qnameWidth, eventWidth};
+ghost use Rattle.token.specs.Tokens.{nameWidth, qnameWidth, eventWidth};
 
 // ---- rows
 

@@ -7,7 +7,7 @@ use mathlib.Core.List.{List, [], _∷_, _++_}
 use lib.Dec.{eqb}
 use lib.ListN.{length}
 use Rattle.sequences.specs.Lists.{bytesOf}
-use Rattle.token.specs.Answers.{accepted, noText}
+use Rattle.token.specs.Tokens.{accepted, noText}
 use Rattle.hexadecimal.specs.Hexadecimal.{hex}
 use Rattle.plan.specs.Text.{textOf}
 use Rattle.text.specs.Shows.{Answer}

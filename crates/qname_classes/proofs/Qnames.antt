@@ -8,15 +8,13 @@ use native.Mathlib.Omega.{arith}
 use native.Mathlib.Numerals.{add-one}
 use lib.Dec.{ltb}
 use lib.ListN.{length, getD, getElem?, set}
-use Rattle.sequences.specs.Lists.{Front}
-use Rattle.sequences.specs.Members.{Every}
+use Rattle.sequences.specs.Lists.{Front, Every}
 use Rattle.sequences.proofs.Overlay.{front-at}
-use Rattle.machine.specs.Rows.{NameRow, QnameRow, qnameRow}
-use Rattle.machine.specs.Events.{nameText}
+use Rattle.machine.specs.Machine.{NameRow, QnameRow, qnameRow, nameText}
 use Rattle.machine.specs.Facts.{QnameFits}
 use Rattle.machine.specs.Tables.{nameRowsIn, qnameRowsIn}
 use Rattle.machine.proofs.Tables.{length-name-rows, qname-row-at, length-qname-rows, at-some, every-at}
-use Rattle.form.specs.Places.{Triple, sameTriple, numberOf, qnumberOf}
+use Rattle.form.specs.Canonical.{Triple, sameTriple, numberOf, qnumberOf}
 use Rattle.form.proofs.Places.{tells-triple}
 use Rattle.classes.specs.Classes.{textsOf, nameClasses, tripleOf, triplesOf, qnameClasses}
 use Rattle.classes.specs.Search.{Last, Chained, classAt, keyOf, Keyable, keyAt}
@@ -24,7 +22,7 @@ use Rattle.classes.proofs.Classes.{place-own, same-class, class-text, name-clas
 use Rattle.classes.proofs.Keys.{key-apart}
 use Rattle.classes.proofs.FirstValues.{FirstValues, values-none, values-next, values-front}
 use Rattle.classes.proofs.Chain.{last-as, chained-as, Slotted, slotted-none, slotted-next, class-chosen}
-use Rattle.token.specs.Answers.{qnameWidth}
+use Rattle.token.specs.Tokens.{qnameWidth}
 
 module _ (doc : List ℕ) (N : List NameRow) (classes : List ℕ) (few : length N ≤ 1024) (front : Front (nameClasses doc N) classes) where
   class-is : (x : ℕ) → x ≤ length N → classAt classes x ≡ numberOf (textsOf doc N) (nameText doc N x)

@@ -2,13 +2,12 @@
 ghost use mathlib.Core.Path.{_≡_};
 ghost use Prim.Native.Nat.{_+_, _*_, _%_, _≤_, _<_};
 ghost use lib.ListN.{length, getD};
-ghost use Rattle.sequences.specs.Lists.{Front};
-ghost use Rattle.sequences.specs.Members.{Every};
+ghost use Rattle.sequences.specs.Lists.{Front, Every};
 ghost use Rattle.machine.specs.Facts.{QnameFits};
 ghost use Rattle.machine.specs.Tables.{nameRowsIn, qnameRowsIn};
 ghost use Rattle.classes.specs.Classes.{nameClasses, qnameClasses};
 ghost use Rattle.classes.specs.Search.{Last, Chained, Keyable, keyAt};
-ghost use Rattle.token.specs.Answers.{nameWidth, qnameWidth};
+ghost use Rattle.token.specs.Tokens.{nameWidth, qnameWidth};
 
 // The slots, as a key has them.
 const MODULUS: u32 = classes::SLOTS as u32;

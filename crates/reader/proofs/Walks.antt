@@ -16,8 +16,7 @@ use Rattle.modes.specs.declared.View.{View}
 use Rattle.scan.specs.declared.Room.{Room}
 use Rattle.scan.specs.declared.Step.{Step}
 use Rattle.scan.specs.declared.Step.the-variants as step
-use Rattle.machine.specs.Machine.{State, view, apply, Result, result, run, started}
-use Rattle.machine.specs.Contract.{Reads}
+use Rattle.machine.specs.Machine.{State, view, apply, Result, result, run, started, Reads}
 use Rattle.rows.specs.Tables.{Tables, tables, answerAt, Turned, Held, ReadingBegins}
 use Rattle.steps.proofs.Keeps.{Stored, Kept, keep, same-lengths}
 use Rattle.machine.proofs.Goes.{Goes, passes, stepped, stopped}

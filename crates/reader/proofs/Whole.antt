@@ -4,12 +4,11 @@ use mathlib.Core.Path.{_≡_, refl, subst}
 use mathlib.Core.List.{List}
 use native.Mathlib.Omega.{arith}
 use lib.ListN.{length}
-use Rattle.token.specs.Answers.{longest}
+use Rattle.token.specs.Tokens.{longest}
 use Rattle.fields.specs.Bounds.{HeaderWithin}
 use Rattle.fields.specs.declared.Header.{Header}
 use Rattle.fields.specs.declared.Header.the-variants as header
-use Rattle.machine.specs.Machine.{Result, result, blank}
-use Rattle.machine.specs.Contract.{roomIn, readAnswer, Reads}
+use Rattle.machine.specs.Machine.{Result, result, blank, roomIn, readAnswer, Reads}
 use Rattle.rows.specs.Tables.{ReadingBegins}
 use Rattle.machine.specs.declared.Answer.{Answer}
 

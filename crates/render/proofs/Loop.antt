@@ -9,8 +9,7 @@ use lib.Dec.{eqb}
 use lib.ListN.{length, getD, drop, set, length-append, length-map, drop-of-length-le}
 use borrow.Author.Tests.{eqb-true, ne-eqb}
 use Rattle.sequences.specs.Lists.{Bytes}
-use Rattle.machine.specs.Rows.{EventRow, event}
-use Rattle.machine.specs.Events.{Event, eventOf}
+use Rattle.machine.specs.Machine.{EventRow, event, Event, eventOf}
 use Rattle.machine.specs.Tables.{nameRowsIn, qnameRowsIn, eventRowsIn, eventsIn}
 use Rattle.machine.proofs.Tables.{event-rows-from, length-event-rows}
 use Rattle.meaning.specs.Meaning.{Symbol, Attribute, none-open, symbolsOf, attributeAfter, depthAfter, inside, begins, onto, newIf, pieces, rest, meanings}
@@ -28,7 +27,7 @@ use Rattle.symbols.proofs.Going.{put-put, put-none, put-long, put-as, put-set}
 use Rattle.render.proofs.Tokens.{Ahead, ahead-of, ahead-le, fits-room}
 use Rattle.render.proofs.Says.{Says, says, row-few}
 use Rattle.render.proofs.Sums.{flat, sums, later, flat-snoc, sums-long, flat-new, sums-new, hashes-new, hash-new, cut-here, parts-here, hashes-here}
-use Rattle.token.specs.Answers.{eventWidth}
+use Rattle.token.specs.Tokens.{eventWidth}
 
 -- ---- symbols so far, at a row that begins a record or does not
 

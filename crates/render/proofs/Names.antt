@@ -6,12 +6,11 @@ use native.Mathlib.Omega.{arith}
 use lib.ListN.{length, getD}
 use Rattle.sequences.specs.Lists.{Front}
 use Rattle.sequences.proofs.Overlay.{front-at}
-use Rattle.machine.specs.Rows.{NameRow, qnameRow}
-use Rattle.machine.specs.Events.{qnamed, nameText, qnameEvent}
+use Rattle.machine.specs.Machine.{NameRow, qnameRow, qnamed, nameText, qnameEvent}
 use Rattle.machine.specs.Facts.{QnameFits}
 use Rattle.machine.specs.Tables.{nameRowsIn, qnameRowsIn}
 use Rattle.machine.proofs.Tables.{length-name-rows, qname-row-at, at-some, every-at}
-use Rattle.form.specs.Places.{numberOf}
+use Rattle.form.specs.Canonical.{numberOf}
 use Rattle.classes.specs.Classes.{textsOf, nameClasses}
 use Rattle.classes.specs.Search.{classAt}
 use Rattle.classes.proofs.Classes.{name-class-at, name-text-at, length-classes}
@@ -19,7 +18,7 @@ use Rattle.qname_classes.proofs.Qnames.{keyable}
 use Rattle.meaning.specs.Codes.{both}
 use Rattle.render.specs.Render.{Renderable}
 use Rattle.marks.specs.Names.{classIn, uriAt, prefixAt, localAt, pairOf, Named}
-use Rattle.token.specs.Answers.{qnameWidth}
+use Rattle.token.specs.Tokens.{qnameWidth}
 
 class-is : (doc : List ℕ) (N : List NameRow) (classes : List ℕ) → Front (nameClasses doc N) classes → (x : ℕ) → x ≤ length N
     → classAt classes x ≡ numberOf (textsOf doc N) (nameText doc N x)

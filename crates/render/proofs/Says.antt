@@ -9,15 +9,13 @@ use native.Mathlib.Omega.{arith}
 use lib.Dec.{eqb, leb}
 use lib.ListN.{length, getD, length-append, length-map, length-take}
 use borrow.Author.Tests.{eqb-true, eq-eqb, ne-eqb, leb-true, leb-false}
-use Rattle.sequences.specs.Lists.{Bytes, part, unitsOf}
-use Rattle.sequences.specs.Members.{none, first}
+use Rattle.sequences.specs.Lists.{Bytes, part, unitsOf, none, first}
 use Rattle.sequences.proofs.Units.{bytes-take, bytes-drop}
 use Rattle.token.specs.Tokens.{classOf, shapeOf}
 use Rattle.token.specs.declared.Class.the-variants as class
 use Rattle.rules.specs.Rules.{lawful}
 use Rattle.value.proofs.Fields.{payload-lawful, not-qname}
-use Rattle.machine.specs.Rows.{EventRow, event}
-use Rattle.machine.specs.Events.{Event, texted, qnamed, valued, plain, eventBy, eventOf}
+use Rattle.machine.specs.Machine.{EventRow, event, Event, texted, qnamed, valued, plain, eventBy, eventOf}
 use Rattle.machine.specs.Facts as facts
 use Rattle.machine.specs.Facts.{textTokens, qnameTokens, bareTokens, EventFits}
 use Rattle.machine.specs.Tables.{nameRowsIn, qnameRowsIn}

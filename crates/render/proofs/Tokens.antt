@@ -8,7 +8,7 @@ use native.Mathlib.Omega.{arith}
 use lib.Dec.{eqb, ltb}
 use lib.ListN.{length}
 use borrow.Author.Tests.{eqb-true, ltb-true}
-use Rattle.sequences.specs.Members.{none, first}
+use Rattle.sequences.specs.Lists.{none, first}
 use Rattle.sequences.proofs.Tests.{and-left, and-right}
 use Rattle.token.specs.Tokens.{Token, token, tokens, find, classOf, shapeOf}
 use Rattle.token.specs.declared.Class.{Class}
@@ -18,7 +18,7 @@ use Rattle.value.specs.Fields.{textAt, fieldAt}
 use Rattle.value.specs.declared.Text.the-variants as text
 use Rattle.value.specs.declared.Field.the-variants as field
 use Rattle.value.proofs.Fields.{field-inside, payload-inside, text-lies, is-lies}
-use Rattle.machine.specs.Rows.{EventRow}
+use Rattle.machine.specs.Machine.{EventRow}
 use Rattle.machine.specs.Facts as facts
 use Rattle.machine.specs.Facts.{textTokens, qnameTokens, bareTokens, EventFits, Placed}
 use Rattle.machine.proofs.Facts.{every-one-of}

@@ -9,8 +9,7 @@ ghost use Rattle.symbols.specs.Store.{PutHashed};
 ghost use Rattle.render_elements.specs.Codes.{countedBy, valueBy, unlessOut, rowBy, depthBy, attributeBy, roomBy, RowFits};
 ghost use Rattle.render_elements.specs.Effects.{RowPut, RowDone};
 ghost use Rattle.render.specs.Render.{Renderable, Rendered, roomFor};
-ghost use Rattle.token.specs.Codes.{ELEMENT-TOKEN, ENDELEMENT-TOKEN};
-ghost use Rattle.token.specs.Answers.{eventWidth};
+ghost use Rattle.token.specs.Tokens.{ELEMENT-TOKEN, ENDELEMENT-TOKEN, eventWidth};
 use render_elements::Progress;
 use symbols::Cursor;
 

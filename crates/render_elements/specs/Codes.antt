@@ -7,8 +7,7 @@ use mathlib.Core.List.{List, [], _∷_, _++_}
 use lib.Dec.{eqb, ltb}
 use lib.ListN.{length}
 use Rattle.sequences.specs.Lists.{part, unitsOf}
-use Rattle.token.specs.Tokens.{shapeOf}
-use Rattle.token.specs.Codes.{XSD-QNAME, ELEMENT-TOKEN, ATTRIBUTE-TOKEN, ENDATTRIBUTES-TOKEN, ENDELEMENT-TOKEN, CDATA-TOKEN}
+use Rattle.token.specs.Tokens.{shapeOf, XSD-QNAME, ELEMENT-TOKEN, ATTRIBUTE-TOKEN, ENDATTRIBUTES-TOKEN, ENDELEMENT-TOKEN, CDATA-TOKEN}
 use Rattle.rules.specs.Rules.{lawful}
 use Rattle.plan.specs.Text.{textOf}
 use Rattle.meaning.specs.Meaning.{Attribute, none-open, counted, skipped}

@@ -9,10 +9,8 @@ use lib.ListN.{length, getElem?, length-map}
 use Rattle.sequences.specs.Lists.{same}
 use Rattle.number.specs.Number.{shortest}
 use Rattle.value.specs.Fields.{textAt}
-use Rattle.machine.specs.Rows.{NameRow, QnameRow}
-use Rattle.machine.specs.Events.{Event, pi, qnamed, nameText, dataIn}
-use Rattle.form.specs.Places.{Triple, sameTriple, place, numberOf, qnumberOf}
-use Rattle.form.specs.Canonical.{withUnits, Defined, defined, Scopes, scopes, emit, scopesAfter, left, definition, qnameDefinition}
+use Rattle.machine.specs.Machine.{NameRow, QnameRow, Event, pi, qnamed, nameText, dataIn}
+use Rattle.form.specs.Canonical.{Triple, sameTriple, place, numberOf, qnumberOf, withUnits, Defined, defined, Scopes, scopes, emit, scopesAfter, left, definition, qnameDefinition}
 use Rattle.classes.specs.Classes.{textsOf, tripleOf, triplesOf}
 use Rattle.form_slots.specs.Slots.{slotsAfter, partsAt, Cleared}
 use Rattle.form_names.specs.Naming.{namesAfter}

@@ -9,11 +9,10 @@ use lib.Dec.{ltb, leb, eqb}
 use lib.ListN.{length}
 use borrow.Author.Tests.{ltb-true, leb-true}
 use Rattle.sequences.proofs.Tests.{and-left, and-right}
-use Rattle.token.specs.Answers.{openElements, nestedDocuments}
-use Rattle.token.specs.Tokens.{classOf}
+use Rattle.token.specs.Tokens.{openElements, nestedDocuments, classOf}
 use Rattle.token.specs.declared.Class.{Class}
 use Rattle.token.specs.declared.Class.the-variants as class
-use Rattle.machine.specs.Rows.{EventRow}
+use Rattle.machine.specs.Machine.{EventRow}
 use Rattle.machine.specs.Balance.{Opened, opened, total, innermost, raised, lowered, around, outside, only, takenBy, andThen, check}
 use Rattle.form_items.specs.declared.Item.{Item}
 use Rattle.form_items.specs.declared.Item.the-variants.{Byte, Texted, Pi, Refer, Valued, Nest, Leave}

@@ -9,8 +9,7 @@ use native.Mathlib.Omega.{arith}
 use lib.Dec.{eqb, ltb}
 use lib.ListN.{length, getElem?}
 use borrow.Author.Tests.{eqb-true, ltb-true}
-use Rattle.sequences.specs.Lists.{part}
-use Rattle.sequences.specs.Members.{none, first}
+use Rattle.sequences.specs.Lists.{part, none, first}
 use Rattle.sequences.proofs.Tests.{cond-if, and-left, and-right}
 use Rattle.token.specs.Tokens.{Token, token, tokens, find, classOf, shapeOf}
 use Rattle.token.specs.declared.Class.{Class}
@@ -19,8 +18,7 @@ use Rattle.token.specs.declared.Shape.the-variants.{Nothing}
 use Rattle.value.specs.Fields.{textAt}
 use Rattle.value.specs.declared.Text.the-variants as text
 use Rattle.value.proofs.Fields.{field-inside, payload-inside, text-lies, is-lies, payload-lawful, not-qname}
-use Rattle.machine.specs.Rows.{NameRow, QnameRow, EventRow, event}
-use Rattle.machine.specs.Events.{Event, texted, standalone, pi, qnamed, valued, nest, plain, nameText, dataIn, qnameEvent, eventBy, eventOf}
+use Rattle.machine.specs.Machine.{NameRow, QnameRow, EventRow, event, Event, texted, standalone, pi, qnamed, valued, nest, plain, nameText, dataIn, qnameEvent, eventBy, eventOf}
 use Rattle.machine.specs.Facts as facts
 use Rattle.machine.specs.Facts.{textTokens, qnameTokens, bareTokens, EventFits}
 use Rattle.machine.proofs.Facts.{every-one-of}

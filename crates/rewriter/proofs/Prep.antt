@@ -8,13 +8,12 @@ use native.Mathlib.Omega.{arith}
 use lib.ListN.{length, getD, getElem?, drop}
 use Rattle.sequences.specs.Lists.{same}
 use Rattle.sequences.proofs.Overlay.{front-at}
-use Rattle.machine.specs.Rows.{NameRow, QnameRow, EventRow, nameRow, qnameRow, event}
-use Rattle.machine.specs.Events.{nameText, eventOf}
+use Rattle.machine.specs.Machine.{NameRow, QnameRow, EventRow, nameRow, qnameRow, event, nameText, eventOf}
 use Rattle.machine.specs.Facts as facts
 use Rattle.machine.specs.Facts.{QnameFits, EventFits, Placed}
 use Rattle.machine.specs.Tables.{nameRowsIn, qnameRowsIn, eventRowsIn}
 use Rattle.machine.proofs.Tables.{at-inside, at-some, every-at, length-name-rows, length-qname-rows, length-event-rows, name-row-at, qname-row-at, event-row-at, event-rows-from, names-inside}
-use Rattle.form.specs.Places.{Triple, sameTriple, place, numberOf, qnumberOf}
+use Rattle.form.specs.Canonical.{Triple, sameTriple, place, numberOf, qnumberOf}
 use Rattle.form.proofs.Places.{tells-text, tells-triple, place-at, place-found}
 use Rattle.classes.specs.Classes.{rowText, textsOf, nameClasses, tripleOf, triplesOf, qnameClasses}
 use Rattle.classes.proofs.Classes.{Known, texts-at, length-texts, length-classes, name-class-at, name-text-at, class-text, name-known, triples-at, length-triples, length-qclasses, qname-class-at, qclass-row}
@@ -26,7 +25,7 @@ use Rattle.rewriter.proofs.ItemLaws.{Meets, item-meets, fits-low}
 use Rattle.rewriter.proofs.Acts.{Said}
 use Rattle.form_items.specs.Items.{itemOf}
 use Rattle.classes.specs.Search.{classAt}
-use Rattle.token.specs.Answers.{qnameWidth, eventWidth}
+use Rattle.token.specs.Tokens.{qnameWidth, eventWidth}
 
 -- ---- rows
 

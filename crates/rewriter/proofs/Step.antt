@@ -18,8 +18,7 @@ use borrow.Author.Tests.{ltb-true, ltb-false, leb-true, leb-false}
 use Rattle.value.specs.Fields.{textAt}
 use Rattle.value.specs.declared.Text as texts
 use Rattle.value.specs.declared.Text.the-variants as text
-use Rattle.machine.specs.Rows.{NameRow, QnameRow, EventRow}
-use Rattle.machine.specs.Events.{Event, dataIn, eventOf}
+use Rattle.machine.specs.Machine.{NameRow, QnameRow, EventRow, Event, dataIn, eventOf}
 use Rattle.machine.specs.Balance.{Opened, check}
 use Rattle.form.specs.Canonical.{Scopes, emit, scopesAfter, body, headerOf, lengthOf, withUnits}
 use Rattle.form_output.specs.Output.{Fits, Put}

@@ -7,12 +7,10 @@ use native.Mathlib.Omega.{arith}
 use lib.ListN.{length, getD, length-append, replicate, length-replicate, getD-replicate}
 use lib.Seq.{sets}
 use Rattle.sequences.specs.Lists.{same}
-use Rattle.machine.specs.Rows.{NameRow, QnameRow, EventRow}
-use Rattle.machine.specs.Events.{eventOf}
+use Rattle.machine.specs.Machine.{NameRow, QnameRow, EventRow, eventOf}
 use Rattle.machine.specs.Balance.{nothingOpen}
 use Rattle.machine.specs.Tables.{nameRowsIn, qnameRowsIn, eventRowsIn, eventsIn}
-use Rattle.form.specs.Places.{sameTriple}
-use Rattle.form.specs.Canonical.{none-yet, body, headerOf, canonical}
+use Rattle.form.specs.Canonical.{sameTriple, none-yet, body, headerOf, canonical}
 use Rattle.form_output.specs.Output.{Fits, Put}
 use Rattle.form_output.proofs.Laws.{put-then, put-length}
 use Rattle.classes.specs.Classes.{textsOf, triplesOf}
@@ -26,7 +24,7 @@ use Rattle.form_items.specs.declared.Item.the-variants.{Leave}
 use Rattle.form_items.specs.Walk.{Tables, itemAt, Either, bytesFor, nestedAfter, Wrote, Turned, Ready, ItemFits, Prepared}
 use Rattle.rewriter.proofs.Step.{Rel, fits-here, room-here, keeps, ends}
 use Rattle.rewriter.proofs.Prep.{long-names, long-qnames, long-events, said, ready, from-row, meets, rowAt, token-low}
-use Rattle.token.specs.Answers.{eventWidth}
+use Rattle.token.specs.Tokens.{eventWidth}
 
 -- ---- a turn
 

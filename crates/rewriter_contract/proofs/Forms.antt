@@ -7,12 +7,10 @@ use native.Mathlib.Omega.{arith}
 use lib.Dec.{eqb}
 use lib.ListN.{length}
 use borrow.Author.Tests.{lt-ltb, le-ltb, eq-eqb, ne-eqb}
-use Rattle.sequences.specs.Lists.{Front}
-use Rattle.sequences.specs.Members.{Every}
-use Rattle.token.specs.Answers.{accepted, longest, nameWidth, qnameWidth}
-use Rattle.machine.specs.Machine.{Result, reading}
+use Rattle.sequences.specs.Lists.{Front, Every}
+use Rattle.token.specs.Tokens.{accepted, longest, nameWidth, qnameWidth}
+use Rattle.machine.specs.Machine.{Result, reading, roomIn, Reads}
 use Rattle.machine.specs.Facts.{NameFits, QnameFits}
-use Rattle.machine.specs.Contract.{roomIn, Reads}
 use Rattle.machine.specs.Tables.{nameRowsIn, qnameRowsIn, eventsIn}
 use Rattle.machine.specs.declared.Answer as reader-answer
 use Rattle.machine.proofs.Balance.{balanced}

@@ -7,10 +7,8 @@ use mathlib.Core.List.{List}
 use lib.Dec.{ltb, eqb}
 use lib.ListN.{length}
 use Rattle.sequences.specs.Lists.{overlay}
-use Rattle.token.specs.Answers.{accepted, noRoom, formTooLong, longest}
-use Rattle.machine.specs.Rows.{flatNames, flatQnames, flatEvents}
-use Rattle.machine.specs.Machine.{Result}
-use Rattle.machine.specs.Events.{eventsOf}
+use Rattle.token.specs.Tokens.{accepted, noRoom, formTooLong, longest}
+use Rattle.machine.specs.Machine.{flatNames, flatQnames, flatEvents, Result, eventsOf}
 use Rattle.form.specs.Canonical.{canonical}
 use Rattle.rewriter_contract.specs.declared.Answer.{Answer}
 

@@ -7,11 +7,11 @@ use lib.ListN.{length}
 use lib.Seq.{sets}
 use Rattle.sequences.specs.Lists.{overlay}
 use Rattle.sequences.proofs.Overlay.{overlay-sets}
-use Rattle.machine.specs.Rows.{NameRow, QnameRow, EventRow, nameRow, qnameRow, event, flatNames, flatQnames, flatEvents}
+use Rattle.machine.specs.Machine.{NameRow, QnameRow, EventRow, nameRow, qnameRow, event, flatNames, flatQnames, flatEvents}
 use Rattle.rows.specs.Tables.{put2, put3, put4, put6}
 use Rattle.modes.specs.declared.View.{View}
 use Rattle.machine.proofs.Rows.{length-names, length-qnames, length-events, flat-names, flat-qnames, flat-events}
-use Rattle.token.specs.Answers.{nameWidth, qnameWidth, eventWidth}
+use Rattle.token.specs.Tokens.{nameWidth, qnameWidth, eventWidth}
 
 -- stores at neighbouring places are one store of a run
 pub run2 : (l : List ℕ) (row a b : ℕ) → put2 l row a b ≡ sets l (nameWidth * row) (a ∷ b ∷ [])

@@ -11,8 +11,7 @@ use Rattle.scan.specs.declared.Room.{Room}
 use Rattle.scan.specs.declared.Step.{Step}
 use Rattle.scan.specs.declared.Step.the-variants as step
 use Rattle.machine.specs.declared.Answer.{Answer}
-use Rattle.token.specs.Codes.{ELEMENT-TOKEN, PI-TOKEN, ENDELEMENT-TOKEN, NEST-TOKEN, ENDNEST-TOKEN}
-use Rattle.token.specs.Answers.{nameWidth, qnameWidth, eventWidth}
+use Rattle.token.specs.Tokens.{ELEMENT-TOKEN, PI-TOKEN, ENDELEMENT-TOKEN, NEST-TOKEN, ENDNEST-TOKEN, nameWidth, qnameWidth, eventWidth}
 
 -- the three lent tables, the stacks of name rows and qname rows of all open documents, and what returns after a nested one
 pub record Tables : Type 0 where

@@ -5,7 +5,7 @@ ghost use Prim.Native.Nat.{_+_, _*_, _≤_, _<_};
 ghost use lib.ListN.{length, set};
 ghost use Rattle.rows.specs.Tables.{put2, put3, put4, put6, rowAt, moved, evented, named, qnamed, flushed, entered, elementClosed, inside, outside};
 ghost use Rattle.modes.specs.Modes.{afterMetadata};
-ghost use Rattle.token.specs.Answers.{nameWidth, qnameWidth, eventWidth};
+ghost use Rattle.token.specs.Tokens.{nameWidth, qnameWidth, eventWidth};
 use modes::Mode;
 use modes::View;
 use token::NameNumber;

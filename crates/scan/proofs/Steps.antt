@@ -7,8 +7,7 @@ use native.Mathlib.Omega.{arith}
 use lib.Dec.{leb, eqb}
 use lib.ListN.{length, getD}
 use Rattle.sequences.proofs.Tests.{tests}
-use Rattle.token.specs.Answers.{accepted, missing, badToken, notDefined, badValue, tooDeep, noRow, openElements, nestedDocuments}
-use Rattle.token.specs.Tokens.{classOf, shapeOf}
+use Rattle.token.specs.Tokens.{accepted, missing, badToken, notDefined, badValue, tooDeep, noRow, openElements, nestedDocuments, classOf, shapeOf}
 use Rattle.token.specs.declared.NameNumber.{NameNumber}
 use Rattle.token.specs.declared.QnameNumber.{QnameNumber}
 use Rattle.number.specs.Number.{numberAt}
@@ -19,8 +18,7 @@ use Rattle.value.specs.declared.Text.{Text}
 use Rattle.value.specs.declared.Text.the-variants as text
 use Rattle.value.specs.declared.Field.{Field}
 use Rattle.value.specs.declared.Field.the-variants as field
-use Rattle.fields.specs.References.{nameAt, qnameAt}
-use Rattle.fields.specs.Headers.{headerAt}
+use Rattle.fields.specs.Fields.{nameAt, qnameAt, headerAt}
 use Rattle.fields.specs.declared.Name.{Name}
 use Rattle.fields.specs.declared.Name.the-variants as name
 use Rattle.fields.specs.declared.Qname.{Qname}

@@ -5,12 +5,10 @@ use mathlib.Core.Bool.{cond, _&&_}
 use mathlib.Core.List.{List}
 use lib.Dec.{ltb, leb, eqb}
 use lib.ListN.{length, getD}
-use Rattle.token.specs.Answers.{accepted, missing, badToken, notDefined, badValue, tooDeep, noRow, openElements, nestedDocuments}
-use Rattle.token.specs.Tokens.{classOf, shapeOf}
+use Rattle.token.specs.Tokens.{accepted, missing, badToken, notDefined, badValue, tooDeep, noRow, openElements, nestedDocuments, classOf, shapeOf, ATTRIBUTE-TOKEN, ENCODING-TOKEN}
 use Rattle.token.specs.declared.NameNumber.{NameNumber}
 use Rattle.token.specs.declared.Class.{Class}
 use Rattle.token.specs.declared.Class.the-variants as class
-use Rattle.token.specs.Codes.{ATTRIBUTE-TOKEN, ENCODING-TOKEN}
 use Rattle.number.specs.Number.{numberAt}
 use Rattle.number.specs.declared.Number.{Number}
 use Rattle.number.specs.declared.Number.the-variants as number
@@ -19,8 +17,7 @@ use Rattle.value.specs.declared.Text.{Text}
 use Rattle.value.specs.declared.Text.the-variants as text
 use Rattle.value.specs.declared.Field.{Field}
 use Rattle.value.specs.declared.Field.the-variants as field
-use Rattle.fields.specs.References.{nameAt, qnameAt}
-use Rattle.fields.specs.Headers.{headerAt}
+use Rattle.fields.specs.Fields.{nameAt, qnameAt, headerAt}
 use Rattle.fields.specs.declared.Name.{Name}
 use Rattle.fields.specs.declared.Name.the-variants as name
 use Rattle.fields.specs.declared.Qname.{Qname}

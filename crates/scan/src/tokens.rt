@@ -4,7 +4,7 @@ ghost use Prim.Native.Nat.{_+_, _<_};
 ghost use lib.ListN.{length};
 ghost use Rattle.token.specs.Entries.{Listed};
 ghost use Rattle.scan.specs.Steps.{eventDue, textStep, nameStep, qnameStep, localAfter, prefixAfter, extensionStep, dataAfter, piStep, elementStep, attributeStep, valueAfter, valueStep, nestStep};
-ghost use Rattle.fields.specs.References.{nameAt};
+ghost use Rattle.fields.specs.Fields.{nameAt};
 ghost use Rattle.value.specs.Fields.{textAt};
 use crate::Room;
 use crate::Step;

@@ -16,11 +16,10 @@ use Rattle.modes.specs.declared.View.{View}
 use Rattle.scan.specs.declared.Room.{Room}
 use Rattle.scan.specs.declared.Step.{Step}
 use Rattle.scan.specs.declared.Step.the-variants as step
-use Rattle.machine.specs.Rows.{event, flatNames, flatQnames, flatEvents}
+use Rattle.machine.specs.Machine.{event, flatNames, flatQnames, flatEvents, Scope, scope, State, view, namesIn, qnamesIn, elementsIn, rowOf, onward, returned, apply}
 use Rattle.token.specs.declared.NameNumber.{NameNumber}
 use Rattle.token.specs.declared.QnameNumber.{QnameNumber}
-use Rattle.token.specs.Answers.{qnameWidth, eventWidth}
-use Rattle.machine.specs.Machine.{Scope, scope, State, view, namesIn, qnamesIn, elementsIn, rowOf, onward, returned, apply}
+use Rattle.token.specs.Tokens.{qnameWidth, eventWidth}
 use Rattle.rows.specs.Tables.{Tables, put2, put4, tablesAfter, Turned, Held}
 use Rattle.rows.proofs.Puts.{names-put, qnames-put, events-put}
 use Rattle.machine.proofs.Rows.{length-names, length-qnames, length-events}

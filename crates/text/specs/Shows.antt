@@ -7,7 +7,7 @@ use mathlib.Core.List.{List, []}
 use lib.ListN.{length, take}
 use lib.Dec.{leb}
 use Rattle.sequences.specs.Lists.{overlay, bytesOf}
-use Rattle.token.specs.Answers.{accepted, noRoom, noText}
+use Rattle.token.specs.Tokens.{accepted, noRoom, noText}
 use Rattle.text.specs.declared.Shown.{Shown}
 use Rattle.text.specs.declared.Shown.the-variants.{Own, Made, Short, NoText}
 use Rattle.plan.specs.Text.{kindOf, textOf, isSame}

@@ -1,5 +1,3 @@
-pub mod Codes
-pub mod Answers
 pub mod Tokens
 pub mod Entries
 pub mod Fixed

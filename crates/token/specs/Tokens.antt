@@ -1,5 +1,4 @@
--- The tokens of the format (004, section 2, the codes in their order there), each with its class and the shape of its
--- payload. Sizes, bounds and rules of the shapes are those of 01, "Value rules".
+-- The answer numbers and the bounds of 01, and the tokens of 004, by name.
 use Prim.Native.Nat.{ℕ}
 use mathlib.Core.Bool.{cond}
 use mathlib.Core.List.{List, [], _∷_}
@@ -9,6 +8,156 @@ use Rattle.token.specs.declared.Class.the-variants.{Unknown, Value, Late
 use Rattle.token.specs.declared.Shape.{Shape}
 use Rattle.token.specs.declared.Shape.the-variants.{Nothing, Fixed, Text, Blob, CodePage, Decimal, Qname, Stamp, Date, Time, ZonedTime}
 
+-- ---- answer numbers (01, "Answer numbers")
+
+abbrev pub accepted : ℕ
+accepted = 0
+
+abbrev pub tooLong : ℕ
+tooLong = 1
+
+abbrev pub missing : ℕ
+missing = 2
+
+abbrev pub badHeader : ℕ
+badHeader = 3
+
+abbrev pub badNumber : ℕ
+badNumber = 4
+
+abbrev pub badToken : ℕ
+badToken = 5
+
+abbrev pub notDefined : ℕ
+notDefined = 6
+
+abbrev pub badValue : ℕ
+badValue = 7
+
+abbrev pub tooDeep : ℕ
+tooDeep = 8
+
+abbrev pub noRow : ℕ
+noRow = 9
+
+abbrev pub noRoom : ℕ
+noRoom = 10
+
+abbrev pub noPairs : ℕ
+noPairs = 11
+
+abbrev pub noText : ℕ
+noText = 12
+
+abbrev pub formTooLong : ℕ
+formTooLong = 13
+
+-- ---- bounds (01, "Numbers that bound the work")
+
+-- the longest document, in bytes
+abbrev pub longest : ℕ
+longest = 65536
+
+-- the largest value of a multi-byte number (01, "Document rules")
+abbrev pub largest : ℕ
+largest = 2147483647
+
+-- rows of each table, at most
+abbrev pub nameRows : ℕ
+nameRows = 1024
+
+abbrev pub qnameRows : ℕ
+qnameRows = 1024
+
+abbrev pub eventRows : ℕ
+eventRows = 4096
+
+-- numbers of a row of each table (01, "Rows")
+abbrev pub nameWidth : ℕ
+nameWidth = 2
+
+abbrev pub qnameWidth : ℕ
+qnameWidth = 3
+
+abbrev pub eventWidth : ℕ
+eventWidth = 4
+
+-- elements open at once, counted across nesting
+abbrev pub openElements : ℕ
+openElements = 64
+
+-- documents nested one inside another
+abbrev pub nestedDocuments : ℕ
+nestedDocuments = 8
+
+-- ---- the codes of the tokens that are no values, and of XSD-QNAME, by 004's names (004, section 2)
+
+abbrev pub XMLDECL-TOKEN : ℕ
+XMLDECL-TOKEN = 0xFE
+
+abbrev pub ENCODING-TOKEN : ℕ
+ENCODING-TOKEN = 0xFD
+
+abbrev pub DOCTYPEDECL-TOKEN : ℕ
+DOCTYPEDECL-TOKEN = 0xFC
+
+abbrev pub SYSTEM-TOKEN : ℕ
+SYSTEM-TOKEN = 0xFB
+
+abbrev pub PUBLIC-TOKEN : ℕ
+PUBLIC-TOKEN = 0xFA
+
+abbrev pub SUBSET-TOKEN : ℕ
+SUBSET-TOKEN = 0xF9
+
+abbrev pub ELEMENT-TOKEN : ℕ
+ELEMENT-TOKEN = 0xF8
+
+abbrev pub ENDELEMENT-TOKEN : ℕ
+ENDELEMENT-TOKEN = 0xF7
+
+abbrev pub ATTRIBUTE-TOKEN : ℕ
+ATTRIBUTE-TOKEN = 0xF6
+
+abbrev pub ENDATTRIBUTES-TOKEN : ℕ
+ENDATTRIBUTES-TOKEN = 0xF5
+
+abbrev pub PI-TOKEN : ℕ
+PI-TOKEN = 0xF4
+
+abbrev pub COMMENT-TOKEN : ℕ
+COMMENT-TOKEN = 0xF3
+
+abbrev pub CDATA-TOKEN : ℕ
+CDATA-TOKEN = 0xF2
+
+abbrev pub CDATAEND-TOKEN : ℕ
+CDATAEND-TOKEN = 0xF1
+
+abbrev pub NAMEDEF-TOKEN : ℕ
+NAMEDEF-TOKEN = 0xF0
+
+abbrev pub QNAMEDEF-TOKEN : ℕ
+QNAMEDEF-TOKEN = 0xEF
+
+abbrev pub NEST-TOKEN : ℕ
+NEST-TOKEN = 0xEC
+
+abbrev pub ENDNEST-TOKEN : ℕ
+ENDNEST-TOKEN = 0xEB
+
+abbrev pub EXTN-TOKEN : ℕ
+EXTN-TOKEN = 0xEA
+
+abbrev pub FLUSH-DEFINED-NAME-TOKENS : ℕ
+FLUSH-DEFINED-NAME-TOKENS = 0xE9
+
+abbrev pub XSD-QNAME : ℕ
+XSD-QNAME = 0x8C
+
+-- ---- the tokens of the format (004, section 2, the codes in their order there)
+
+-- a code, its class, and the shape of what follows it; sizes, bounds and rules of the shapes are those of 01, "Value rules"
 pub record Token : Type 0 where
   pub code : ℕ
   pub class : Class

@@ -2,7 +2,7 @@
 use mathlib.Core.Path.{_≡_, refl}
 use mathlib.Core.List.{[], _∷_}
 use Rattle.sequences.specs.Lists.{same}
-use Rattle.meaning.specs.Pairs.{equalTo, pairsFrom, pairsOf, flatPairs}
+use Rattle.meaning.specs.Meaning.{equalTo, pairsFrom, pairsOf, flatPairs}
 use Rattle.twins.specs.Parts.{values, partsOf}
 
 pub three-parts : partsOf (7 ∷ 8 ∷ 9 ∷ 7 ∷ 8 ∷ []) (0 ∷ 2 ∷ 3 ∷ 5 ∷ []) 3 ≡ (7 ∷ 8 ∷ []) ∷ (9 ∷ []) ∷ (7 ∷ 8 ∷ []) ∷ []

@@ -6,7 +6,7 @@ use native.Mathlib.Omega.{arith}
 use native.Mathlib.Nat.{zero-add, sub-zero}
 use lib.ListN.{length, getD}
 use Rattle.sequences.specs.Lists.{same}
-use Rattle.meaning.specs.Pairs.{pairsOf}
+use Rattle.meaning.specs.Meaning.{pairsOf}
 use Rattle.twins.specs.Parts.{partAt, partsOf, Next, Linked}
 use Rattle.twins.specs.Search.{Nexts, pairsAfter}
 use Rattle.twins.proofs.Twins.{length-values, values-at}

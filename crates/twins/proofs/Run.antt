@@ -7,7 +7,7 @@ use lib.ListN.{length, set, length-append, length-map}
 use lib.Seq.{sets, length-sets}
 use Rattle.sequences.specs.Lists.{overlay, same}
 use Rattle.sequences.proofs.Overlay.{sets-append, overlay-sets}
-use Rattle.meaning.specs.Pairs.{Pair, pair, pairsOf, flatPairs}
+use Rattle.meaning.specs.Meaning.{Pair, pair, pairsOf, flatPairs}
 use Rattle.twins.specs.Parts.{partAt, partsOf, Next}
 use Rattle.twins.specs.Search.{twinsOf, pairsAfter}
 use Rattle.twins.proofs.Links.{pairs-all}

@@ -12,7 +12,7 @@ use lib.ListN.{length, getD, set, length-set, length-append, length-map}
 use lib.Seq.{getD-set-same, getD-set-other}
 use Rattle.sequences.specs.Lists.{same}
 use Rattle.hash.specs.Hash.{hashOf}
-use Rattle.meaning.specs.Pairs.{pair, pairsOf}
+use Rattle.meaning.specs.Meaning.{pair, pairsOf}
 use Rattle.twins.specs.Parts.{partAt, partsOf, Next, Linked}
 use Rattle.twins.specs.Search.{partSlot, Head, PartsChained, Nexts, twinsOf, pairsAfter}
 use Rattle.twins.proofs.Chain.{split}

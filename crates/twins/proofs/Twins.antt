@@ -8,7 +8,7 @@ use native.Mathlib.Nat.{add-zero}
 use lib.ListN.{length, getD}
 use Rattle.sequences.specs.Lists.{same}
 use Rattle.sequences.proofs.Same.{not-same, same-list}
-use Rattle.meaning.specs.Pairs.{Pair, pair, equalTo, pairsFrom, flatPairs}
+use Rattle.meaning.specs.Meaning.{Pair, pair, equalTo, pairsFrom, flatPairs}
 use Rattle.twins.specs.Parts.{values, Next}
 use Rattle.twins.specs.Search.{twinsOf, pairsAfter}
 

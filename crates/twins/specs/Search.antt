@@ -6,7 +6,7 @@ use mathlib.Core.List.{List}
 use lib.ListN.{getD}
 use Rattle.sequences.specs.Lists.{same}
 use Rattle.hash.specs.Hash.{hashOf}
-use Rattle.meaning.specs.Pairs.{Pair, equalTo, pairsFrom}
+use Rattle.meaning.specs.Meaning.{Pair, equalTo, pairsFrom}
 use Rattle.twins.specs.Parts.{values, Next}
 
 -- the hashes of the first n parts, each one place further: at place 0 stands the hash of what comes before the parts

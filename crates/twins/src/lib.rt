@@ -11,7 +11,7 @@ ghost use lib.Seq.{sets};
 ghost use lib.Dec.{leb};
 ghost use Rattle.sequences.specs.Lists.{overlay, same};
 ghost use Rattle.hash.specs.Hash.{hashOf};
-ghost use Rattle.meaning.specs.Pairs.{pair, pairsOf, flatPairs};
+ghost use Rattle.meaning.specs.Meaning.{pair, pairsOf, flatPairs};
 ghost use Rattle.twins.specs.Parts.{partAt, partsOf, Cut, Next, Linked};
 ghost use Rattle.twins.specs.Search.{HashesOf, partSlot, Head, PartsChained, Nexts, twinsOf};
 

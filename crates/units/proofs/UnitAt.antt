@@ -7,7 +7,7 @@ use native.Mathlib.Omega.{arith}
 use lib.ListN.{length, getD}
 use lib.Seq.{getD-drop}
 use Rattle.sequences.specs.Lists.{bytesOf, unitsOf}
-use Rattle.token.specs.Answers.{longest}
+use Rattle.token.specs.Tokens.{longest}
 use Rattle.numeral.specs.Numeral.{numeral, truth}
 use Rattle.chunks.specs.Chunks.{chunksValue}
 use Rattle.numeral.specs.Puts.{Ends}

@@ -10,8 +10,7 @@ use lib.ListN.{length, getD}
 use borrow.Author.Tests.{leb-true, eqb-true}
 use Rattle.sequences.specs.Lists.{part}
 use Rattle.sequences.proofs.Tests.{tests, cond-if}
-use Rattle.token.specs.Answers.{missing, badValue, largest}
-use Rattle.token.specs.Tokens.{shapeOf}
+use Rattle.token.specs.Tokens.{missing, badValue, largest, shapeOf}
 use Rattle.token.specs.declared.Shape.{Shape}
 use Rattle.token.specs.declared.Shape.the-variants.{Nothing, Fixed, Text, Blob, CodePage, Decimal, Qname, Stamp, Date, Time, ZonedTime}
 use Rattle.number.specs.Number.{numberAt}

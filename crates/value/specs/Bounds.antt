@@ -1,6 +1,6 @@
 -- Serves the code. Bounds that a caller of `value::read` and `value::text_at` needs.
 use Prim.Native.Nat.{ℕ, _+_, _*_, _≤_, _<_}
-use Rattle.token.specs.Answers.{largest}
+use Rattle.token.specs.Tokens.{largest}
 use Rattle.token.specs.declared.Shape.the-variants.{Text}
 use Rattle.number.specs.declared.Number.the-variants as number
 use Rattle.value.specs.declared.Text as declared

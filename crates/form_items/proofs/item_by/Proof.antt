@@ -1,7 +1,7 @@
 -- `form_items::item_by` meets its contract. Assumes nothing.
 use Rattle.form_items.proofs.Classed.{refers, bytes, texts}
 use borrow.Author.Tests.{eq-eqb, ne-eqb}
-use Rattle.machine.specs.Rows.{event}
+use Rattle.machine.specs.Machine.{event}
 use borrow.Author.Needs.{needs}
 use Rattle.form_items.proofs.item_by.Statement.{statement}
 use Rattle.form_items.proofs.item_by.Tie as tie

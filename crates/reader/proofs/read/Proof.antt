@@ -2,7 +2,7 @@
 use borrow.Author.Needs.{needs}
 use mathlib.Core.Path.{sym}
 use lib.ListN.{length}
-use Rattle.machine.specs.Contract.{roomIn}
+use Rattle.machine.specs.Machine.{roomIn}
 use Rattle.reader.proofs.Whole.{unread, is-header, begins}
 use Rattle.machine.proofs.Whole.{too-long, header-on}
 use Rattle.reader.proofs.read.Statement.{statement}
