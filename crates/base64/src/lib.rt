@@ -6,19 +6,24 @@ ghost use lib.ListN.{length, take, drop, getD};
 ghost use lib.Seq.{sets};
 ghost use Rattle.sequences.specs.Lists.{overlay, bytesOf};
 ghost use Rattle.base64.specs.Base64.{letter, base64, Alphabet};
+ghost use Rattle.token.specs.Tokens.{longest};
+
+// The letters of Base64.
+pub const LETTER_COUNT: usize = 64;
 
 // The alphabet of Base64 (RFC 3548, section 3).
-const LETTERS: [u8; 64] = *b"ABCDEFGHIJKLMNOPQRSTUVWXYZabcdefghijklmnopqrstuvwxyz0123456789+/";
+const LETTERS: [u8; LETTER_COUNT] =
+    *b"ABCDEFGHIJKLMNOPQRSTUVWXYZabcdefghijklmnopqrstuvwxyz0123456789+/";
 
 // The table of the alphabet: made once by a caller, and lent to each use.
-pub fn alphabet() -> [u8; 64]
+pub fn alphabet() -> [u8; LETTER_COUNT]
     ensures { λ r. ⌜ Alphabet r ⌝ }
 {
     LETTERS
 }
 
 // The letter of a number below 64.
-fn letter_of(t: &[u8; 64], v: u8) -> u8
+fn letter_of(t: &[u8; LETTER_COUNT], v: u8) -> u8
     requires { ⌜ Alphabet (now t) × (v < 64) ⌝ }
     ensures { λ r. ⌜ r ≡ letter v ⌝ }
 {
@@ -48,7 +53,7 @@ fn put_four(out: &mut [u8], at: usize, w: u8, x: u8, y: u8, z: u8)
 }
 
 // Stores the Base64 text of one byte, with two letters and two `=`, from byte `at` on.
-fn put_one(t: &[u8; 64], out: &mut [u8], at: usize, a: u8)
+fn put_one(t: &[u8; LETTER_COUNT], out: &mut [u8], at: usize, a: u8)
     requires { ⌜ Alphabet (now t) × (at + 7 < length (now out)) ⌝ }
     ensures { λ _. ⌜ now (out .exit) ≡ sets (now (out .entry)) at (bytesOf (base64 (a ∷ []))) ⌝ }
 {
@@ -58,7 +63,7 @@ fn put_one(t: &[u8; 64], out: &mut [u8], at: usize, a: u8)
 }
 
 // Stores the Base64 text of two bytes, with three letters and one `=`, from byte `at` on.
-fn put_pair(t: &[u8; 64], out: &mut [u8], at: usize, a: u8, b: u8)
+fn put_pair(t: &[u8; LETTER_COUNT], out: &mut [u8], at: usize, a: u8, b: u8)
     requires { ⌜ Alphabet (now t) × (at + 7 < length (now out)) ⌝ }
     ensures { λ _. ⌜ now (out .exit) ≡ sets (now (out .entry)) at (bytesOf (base64 (a ∷ b ∷ []))) ⌝ }
 {
@@ -69,7 +74,7 @@ fn put_pair(t: &[u8; 64], out: &mut [u8], at: usize, a: u8, b: u8)
 }
 
 // Stores the Base64 text of three bytes, with four letters, from byte `at` on.
-fn put_three(t: &[u8; 64], out: &mut [u8], at: usize, a: u8, b: u8, c: u8)
+fn put_three(t: &[u8; LETTER_COUNT], out: &mut [u8], at: usize, a: u8, b: u8, c: u8)
     requires { ⌜ Alphabet (now t) × (at + 7 < length (now out)) ⌝ }
     ensures { λ _. ⌜ now (out .exit) ≡ sets (now (out .entry)) at (bytesOf (base64 (a ∷ b ∷ c ∷ []))) ⌝ }
 {
@@ -81,7 +86,7 @@ fn put_three(t: &[u8; 64], out: &mut [u8], at: usize, a: u8, b: u8, c: u8)
 }
 
 // Writes the Base64 text of the first `n` groups of three bytes to the front of `out`.
-fn put_groups(t: &[u8; 64], p: &[u8], out: &mut [u8], n: usize)
+fn put_groups(t: &[u8; LETTER_COUNT], p: &[u8], out: &mut [u8], n: usize)
     requires { ⌜ Alphabet (now t) × (3 * n ≤ length (now p)) × (8 * n ≤ length (now out)) ⌝ }
     ensures { λ _. ⌜ now (out .exit) ≡ sets (now (out .entry)) 0 (bytesOf (base64 (take (3 * n) (now (p .entry))))) ⌝ }
 {
@@ -93,7 +98,7 @@ fn put_groups(t: &[u8; 64], p: &[u8], out: &mut [u8], n: usize)
 }
 
 // Writes the Base64 text of the one or two bytes from byte `i` on, if there are any, from byte `at` on.
-fn put_last(t: &[u8; 64], p: &[u8], out: &mut [u8], i: usize, at: usize)
+fn put_last(t: &[u8; LETTER_COUNT], p: &[u8], out: &mut [u8], i: usize, at: usize)
     requires { ⌜ Alphabet (now t) × (i ≤ length (now p)) × (length (now p) < i + 3)
         × (at + (length (now p) - i + 2) / 3 * 8 ≤ length (now out)) ⌝ }
     ensures { λ _. ⌜ now (out .exit) ≡ sets (now (out .entry)) at (bytesOf (base64 (drop i (now (p .entry))))) ⌝ }
@@ -110,7 +115,7 @@ fn put_last(t: &[u8; 64], p: &[u8], out: &mut [u8], i: usize, at: usize)
 
 // Writes the Base64 text of `p` as UTF-16LE to the front of `out`; what stands past it stays.
 pub fn base64_into(p: &[u8], out: &mut [u8])
-    requires { ⌜ (length (now p) ≤ 65536) × ((length (now p) + 2) / 3 * 8 ≤ length (now out)) ⌝ }
+    requires { ⌜ (length (now p) ≤ longest) × ((length (now p) + 2) / 3 * 8 ≤ length (now out)) ⌝ }
     ensures { λ _. ⌜ now (out .exit) ≡ overlay (bytesOf (base64 (now (p .entry)))) (now (out .entry)) ⌝ }
 {
     let t = alphabet();
@@ -120,8 +125,8 @@ pub fn base64_into(p: &[u8], out: &mut [u8])
 }
 
 // Character `k` of the Base64 text of `p`: a letter of the three bytes of its group, or `=` past the end of `p`.
-fn base64_char(t: &[u8; 64], p: &[u8], k: usize) -> u8
-    requires { ⌜ Alphabet (now t) × (k < (length (now p) + 2) / 3 * 4) × (length (now p) ≤ 65536) ⌝ }
+fn base64_char(t: &[u8; LETTER_COUNT], p: &[u8], k: usize) -> u8
+    requires { ⌜ Alphabet (now t) × (k < (length (now p) + 2) / 3 * 4) × (length (now p) ≤ longest) ⌝ }
     ensures { λ r. ⌜ r ≡ getD (base64 (now (p .entry))) k 0 ⌝ }
 {
     let i = k / 4 * 3;
@@ -147,8 +152,8 @@ fn base64_char(t: &[u8; 64], p: &[u8], k: usize) -> u8
 }
 
 // Unit `k` of the Base64 text of `p`, in constant time; `t` is the table of the alphabet.
-pub fn base64_unit(t: &[u8; 64], p: &[u8], k: usize) -> u16
-    requires { ⌜ Alphabet (now t) × (k < (length (now p) + 2) / 3 * 4) × (length (now p) ≤ 65536) ⌝ }
+pub fn base64_unit(t: &[u8; LETTER_COUNT], p: &[u8], k: usize) -> u16
+    requires { ⌜ Alphabet (now t) × (k < (length (now p) + 2) / 3 * 4) × (length (now p) ≤ longest) ⌝ }
     ensures { λ r. ⌜ r ≡ getD (base64 (now (p .entry))) k 0 ⌝ }
 {
     slices::wide16(base64_char(t, p, k))

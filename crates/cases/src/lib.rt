@@ -13,7 +13,7 @@ pub const QNAMES: usize = token::QNAME_TABLE;
 pub const EVENTS: usize = token::EVENT_TABLE;
 
 // The bytes of the largest document, and one more, so that a document over the limit is noticed.
-pub const DOCUMENT: usize = 65537;
+pub const DOCUMENT: usize = token::LONGEST + 1;
 
 // The end of the line that begins at a place: the next line feed, or the text's end.
 pub fn line_end(text: &[u8], from: usize) -> usize

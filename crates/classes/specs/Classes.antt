@@ -28,10 +28,17 @@ triplesOf doc names rows = map (tripleOf doc names) rows
 unfoldable pub qnameClasses : List ℕ → List NameRow → List QnameRow → List ℕ
 qnameClasses doc names rows = map (qnumberOf (triplesOf doc names rows)) (triplesOf doc names rows)
 
+-- what a byte's place counts in a hash, and the hashes
+abbrev pub hashFactor : ℕ
+hashFactor = 31
+
+abbrev pub hashWord : ℕ
+hashWord = 4294967296
+
 -- a hash of some bytes, folded from the left: unequal hashes mean unequal texts
 abbrev pub textHashFrom : ℕ → List ℕ → ℕ
 textHashFrom h [] = h
-textHashFrom h (b ∷ l) = textHashFrom ((h * 31 + b) % 4294967296) l
+textHashFrom h (b ∷ l) = textHashFrom ((h * hashFactor + b) % hashWord) l
 
 abbrev pub textHash : List ℕ → ℕ
 textHash l = textHashFrom 0 l

@@ -3,6 +3,7 @@
 ghost use mathlib.Core.Path.{_≡_};
 ghost use Prim.Native.Nat.{_≤_};
 ghost use lib.ListN.{length};
+ghost use Rattle.token.specs.Tokens.{longest};
 use libc::STDOUT_FILENO;
 use rewriter_contract::Answer;
 
@@ -28,7 +29,7 @@ fn write_answer(a: Answer) {
 
 // Writes bytes in hexadecimal, and a line feed.
 fn write_digits(bytes: &[u8])
-    requires { ⌜ length (now bytes) ≤ 65536 ⌝ }
+    requires { ⌜ length (now bytes) ≤ longest ⌝ }
 {
     let mut text = [0u8; DIGITS_ROOM];
     let from = print_lines::put_hex(&mut text, DIGITS_ROOM, bytes);
@@ -38,7 +39,7 @@ fn write_digits(bytes: &[u8])
 
 // Writes the form, and whether the bytes after it are no longer marks.
 fn write_form(out: &[u8], size: usize)
-    requires { ⌜ length (now out) ≤ 65536 ⌝ }
+    requires { ⌜ length (now out) ≤ longest ⌝ }
 {
     if out.len() < size {
         return;
@@ -62,7 +63,7 @@ fn rewrite_front(doc: &[u8], out: &mut [u8], room: usize) -> Answer
 
 // Rewrites into an output of marks.
 fn rewrite_into(doc: &[u8], room: usize) -> Answer
-    requires { ⌜ room ≤ 65536 ⌝ }
+    requires { ⌜ room ≤ longest ⌝ }
 {
     let mut out = [MARK; FORM_ROOM];
     let a = rewrite_front(doc, &mut out, room);
@@ -73,7 +74,7 @@ fn rewrite_into(doc: &[u8], room: usize) -> Answer
 
 // The room that is one byte too small for a form.
 fn too_small(length: usize) -> usize
-    ensures { λ r. ⌜ r ≤ 65536 ⌝ }
+    ensures { λ r. ⌜ r ≤ longest ⌝ }
 {
     if length == 0 {
         return 0;

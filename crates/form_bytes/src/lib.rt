@@ -5,7 +5,8 @@ ghost use lib.ListN.{length};
 ghost use Rattle.sequences.specs.Lists.{part};
 ghost use Rattle.number.specs.Number.{shortest};
 ghost use Rattle.form.specs.Canonical.{withUnits, lengthOf, headerOf};
-ghost use Rattle.form_output.specs.Output.{Fits, Put};
+ghost use Rattle.form_output.specs.Output.{Fits, Put, farBytes};
+ghost use Rattle.token.specs.Tokens.{longest};
 use token::Shape;
 
 // Bytes after a number: their count, or that of the units that they are.
@@ -17,7 +18,7 @@ fn put_counted(
     out: &mut [u8],
     at: usize,
 ) -> usize
-    requires { ⌜ (place + size ≤ length (now doc)) × (length (now doc) ≤ 65536) × (at ≤ 1099511627776) × (count ≤ size)
+    requires { ⌜ (place + size ≤ length (now doc)) × (length (now doc) ≤ longest) × (at ≤ farBytes) × (count ≤ size)
         × Fits (length (now out)) at (length (shortest count) + size) ⌝ }
     ensures { λ r. ⌜ Put (now (out .entry)) (now (out .exit)) at r (shortest count ++ part (now (doc .entry)) place size) ⌝ }
 {
@@ -27,7 +28,7 @@ fn put_counted(
 
 // A text after its length in units.
 pub fn put_text(doc: &[u8], place: usize, units: usize, out: &mut [u8], at: usize) -> usize
-    requires { ⌜ (place + 2 * units ≤ length (now doc)) × (length (now doc) ≤ 65536) × (at ≤ 1099511627776)
+    requires { ⌜ (place + 2 * units ≤ length (now doc)) × (length (now doc) ≤ longest) × (at ≤ farBytes)
         × Fits (length (now out)) at (length (withUnits (part (now doc) place (2 * units)))) ⌝ }
     ensures { λ r. ⌜ Put (now (out .entry)) (now (out .exit)) at r (withUnits (part (now (doc .entry)) place (2 * units))) ⌝ }
 {
@@ -44,7 +45,7 @@ pub fn put_value(
     out: &mut [u8],
     at: usize,
 ) -> usize
-    requires { ⌜ (place + size ≤ length (now doc)) × (length (now doc) ≤ 65536) × (at ≤ 1099511627776)
+    requires { ⌜ (place + size ≤ length (now doc)) × (length (now doc) ≤ longest) × (at ≤ farBytes)
         × Fits (length (now out)) at (length (lengthOf shape (part (now doc) place size)) + size) ⌝ }
     ensures { λ r. ⌜ Put (now (out .entry)) (now (out .exit)) at r (lengthOf shape (part (now (doc .entry)) place size) ++ part (now (doc .entry)) place size) ⌝ }
 {
@@ -58,7 +59,7 @@ pub fn put_value(
 }
 
 pub fn put_header(out: &mut [u8], at: usize, version: u8) -> usize
-    requires { ⌜ at ≤ 1099511627776 ⌝ }
+    requires { ⌜ at ≤ farBytes ⌝ }
     ensures { λ r. ⌜ Put (now (out .entry)) (now (out .exit)) at r (headerOf version) ⌝ }
 {
     form_output::put(out, at, 0xDF);

@@ -7,7 +7,7 @@ use mathlib.Core.List.{List, [], _∷_, _++_}
 use mathlib.Core.Option.{some}
 use lib.ListN.{length, getD}
 use Rattle.sequences.specs.Lists.{Front, part}
-use Rattle.token.specs.Tokens.{shapeOf, PI-TOKEN, NEST-TOKEN, ENDNEST-TOKEN, qnameWidth, eventWidth}
+use Rattle.token.specs.Tokens.{shapeOf, PI-TOKEN, NEST-TOKEN, ENDNEST-TOKEN, qnameWidth, eventWidth, nameRows, qnameRows}
 use Rattle.number.specs.Number.{shortest}
 use Rattle.value.specs.Fields.{textAt}
 use Rattle.value.specs.declared.Text.the-variants as text
@@ -119,16 +119,16 @@ Either room size = (room ≤ 1) ⊎ (size ≤ room)
 -- so many rows of names and of qnames, and their classes
 pub record Ready (t : Tables) (rows qrows : ℕ) : Type 0 where
   pub texts : NamesInside (t .doc) (t .names) rows
-  pub classes-long : length (t .classes) ≡ 1024
-  pub qclasses-long : length (t .qclasses) ≡ 1024
+  pub classes-long : length (t .classes) ≡ nameRows
+  pub qclasses-long : length (t .qclasses) ≡ qnameRows
   pub class-low : (x : ℕ) → x ≤ rows → classAt (t .classes) x ≤ rows
-  pub qrows-few : qrows ≤ 1024
+  pub qrows-few : qrows ≤ qnameRows
   pub qnames-long : qnameWidth * qrows ≤ length (t .qnames)
   pub uri-in : (k : ℕ) → k < qrows → getD (t .qnames) (qnameWidth * k) 0 ≤ rows
   pub prefix-in : (k : ℕ) → k < qrows → getD (t .qnames) (qnameWidth * k + 1) 0 ≤ rows
   pub local-in : (k : ℕ) → k < qrows → getD (t .qnames) (qnameWidth * k + 2) 0 ≤ rows
   pub qclass-from : (x : ℕ) → 1 ≤ x → x ≤ qrows → 1 ≤ classAt (t .qclasses) x
-  pub qclass-low : (x : ℕ) → 1 ≤ x → x ≤ qrows → classAt (t .qclasses) x ≤ 1024
+  pub qclass-low : (x : ℕ) → 1 ≤ x → x ≤ qrows → classAt (t .qclasses) x ≤ qnameRows
 
 -- what an item needs
 pub record TextThere (doc : List ℕ) (start : ℕ) : Type 0 where
@@ -151,7 +151,7 @@ ItemFits t rows qrows depth Leave = 1 ≤ depth
 pub record Prepared (t : Tables) (events : List ℕ) (rows qrows count : ℕ) : Type 0 where
   pub filled : Filled (t .doc) (t .names) (t .qnames) events rows qrows count
   pub balanced : check nothingOpen (eventRowsIn count events) ≡ some nothingOpen
-  pub classes-long : length (t .classes) ≡ 1024
+  pub classes-long : length (t .classes) ≡ nameRows
   pub classes-are : Front (nameClasses (t .doc) (nameRowsIn rows (t .names))) (t .classes)
-  pub qclasses-long : length (t .qclasses) ≡ 1024
+  pub qclasses-long : length (t .qclasses) ≡ qnameRows
   pub qclasses-are : Front (qnameClasses (t .doc) (nameRowsIn rows (t .names)) (qnameRowsIn qrows (t .qnames))) (t .qclasses)

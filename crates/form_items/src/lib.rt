@@ -8,17 +8,17 @@ ghost use Rattle.machine.specs.Tables.{NamesInside};
 ghost use Rattle.form_items.specs.Items.{itemBy, itemOf};
 ghost use Rattle.form_items.specs.Walk.{nestedAfter, tables, baseAt, bytesFor, Ready, ItemFits, piBytes, Wrote, TextThere};
 ghost use Rattle.form.specs.Canonical.{withUnits, lengthOf, headerOf};
-ghost use Rattle.form_output.specs.Output.{Fits, Put};
-ghost use Rattle.form_slots.specs.Slots.{Low, slotsAfter, Cleared, slotCount, region};
+ghost use Rattle.form_output.specs.Output.{Fits, Put, farNames, farQnames, farItems};
+ghost use Rattle.form_slots.specs.Slots.{Low, slotsAfter, Cleared, slotCount, region, lowItems};
 ghost use mathlib.Core.List.{[], _∷_, _++_};
 ghost use Rattle.sequences.specs.Lists.{part};
-ghost use Rattle.token.specs.Tokens.{shapeOf, NEST-TOKEN, eventWidth};
+ghost use Rattle.token.specs.Tokens.{shapeOf, NEST-TOKEN, eventWidth, longest, eventRows, nestedDocuments};
 use token::Class;
 use value::Text;
 
 // What row i of the events asks.
 pub fn look(table: &[u16; 256], events: &[u32], i: usize) -> Item
-    requires { ⌜ Listed (now table) × (i < 4096) × (eventWidth * i + eventWidth ≤ length (now events)) × (getD (now events) (eventWidth * i) 0 < 256) ⌝ }
+    requires { ⌜ Listed (now table) × (i < eventRows) × (eventWidth * i + eventWidth ≤ length (now events)) × (getD (now events) (eventWidth * i) 0 < 256) ⌝ }
     ensures { λ r. ⌜ r ≡ itemOf (event (getD (now (events .entry)) (eventWidth * i) 0) (getD (now (events .entry)) (eventWidth * i + 1) 0)
         (getD (now (events .entry)) (eventWidth * i + 2) 0) (getD (now (events .entry)) (eventWidth * i + 3) 0)) ⌝ }
 {
@@ -77,7 +77,7 @@ fn item_by(class: Class, token: u8, a: usize, b: usize) -> Item
 }
 
 pub fn depth_after(item: Item, depth: usize) -> usize
-    requires { ⌜ (depth ≤ 8) × (item ≡ Item.Leave → 1 ≤ depth) ⌝ }
+    requires { ⌜ (depth ≤ nestedDocuments) × (item ≡ Item.Leave → 1 ≤ depth) ⌝ }
     ensures { λ r. ⌜ r ≡ nestedAfter item depth ⌝ }
 {
     match item {
@@ -134,7 +134,7 @@ pub struct Spot {
 }
 
 fn put_byte(out: &mut [u8], at: usize, byte: u8) -> usize
-    requires { ⌜ at ≤ 1000000000000 ⌝ }
+    requires { ⌜ at ≤ farNames ⌝ }
     ensures { λ r. ⌜ Put (now (out .entry)) (now (out .exit)) at r (byte ∷ []) ⌝ }
 {
     form_output::put(out, at, byte);
@@ -142,7 +142,7 @@ fn put_byte(out: &mut [u8], at: usize, byte: u8) -> usize
 }
 
 fn put_texted(doc: &[u8], out: &mut [u8], at: usize, token: u8, place: usize, units: usize) -> usize
-    requires { ⌜ (place + 2 * units ≤ length (now doc)) × (length (now doc) ≤ 65536) × (at ≤ 1000000000000)
+    requires { ⌜ (place + 2 * units ≤ length (now doc)) × (length (now doc) ≤ longest) × (at ≤ farNames)
         × Fits (length (now out)) at (length (token ∷ withUnits (part (now doc) place (2 * units)))) ⌝ }
     ensures { λ r. ⌜ Put (now (out .entry)) (now (out .exit)) at r (token ∷ withUnits (part (now (doc .entry)) place (2 * units))) ⌝ }
 {
@@ -159,7 +159,7 @@ fn put_valued(
     place: usize,
     size: usize,
 ) -> usize
-    requires { ⌜ Listed (now table) × (place + size ≤ length (now doc)) × (length (now doc) ≤ 65536) × (at ≤ 1000000000000)
+    requires { ⌜ Listed (now table) × (place + size ≤ length (now doc)) × (length (now doc) ≤ longest) × (at ≤ farNames)
         × Fits (length (now out)) at (length (token ∷ (lengthOf (shapeOf token) (part (now doc) place size) ++ part (now doc) place size))) ⌝ }
     ensures { λ r. ⌜ Put (now (out .entry)) (now (out .exit)) at r
         (token ∷ (lengthOf (shapeOf token) (part (now (doc .entry)) place size) ++ part (now (doc .entry)) place size)) ⌝ }
@@ -181,7 +181,7 @@ fn put_pi(
     class: usize,
     start: usize,
 ) -> usize
-    requires { ⌜ NamesInside (now doc) (now names) rows × (class ≤ rows) × (base + region ≤ slotCount) × Low 15000 (now slots) × (at ≤ 900000000000)
+    requires { ⌜ NamesInside (now doc) (now names) rows × (class ≤ rows) × (base + region ≤ slotCount) × Low lowItems (now slots) × (at ≤ farQnames)
         × TextThere (now doc) start
         × Fits (length (now out)) at (length (piBytes (tables (now doc) (now names) [] [] []) (now slots) base class start)) ⌝ }
     ensures { λ r. ⌜ Put (now (out .entry)) (now (out .exit)) at r (piBytes (tables (now (doc .entry)) (now (names .entry)) [] [] []) (now (slots .entry)) base class start)
@@ -208,7 +208,7 @@ fn put_nest(
     base: usize,
     version: u8,
 ) -> usize
-    requires { ⌜ (at ≤ 1000000000000) × (base + region ≤ slotCount) × (length (now slots) ≡ slotCount) × (length (now qslots) ≡ slotCount) ⌝ }
+    requires { ⌜ (at ≤ farNames) × (base + region ≤ slotCount) × (length (now slots) ≡ slotCount) × (length (now qslots) ≡ slotCount) ⌝ }
     ensures { λ r. ⌜ Put (now (out .entry)) (now (out .exit)) at r (NEST-TOKEN ∷ headerOf version)
         × Cleared (now (slots .entry)) (now (slots .exit)) base × Cleared (now (qslots .entry)) (now (qslots .exit)) base ⌝ }
 {
@@ -236,7 +236,7 @@ pub fn write(
 ) -> usize
     requires { ⌜ Listed (now table) × Ready (tables (now doc) (now names) (now qnames) (now classes) (now qclasses)) rows qrows
         × ItemFits (tables (now doc) (now names) (now qnames) (now classes) (now qclasses)) rows qrows (w .depth) item
-        × Low 15000 (now slots) × Low 15000 (now qslots) × (w .depth ≤ 8) × (w .at ≤ 800000000000)
+        × Low lowItems (now slots) × Low lowItems (now qslots) × (w .depth ≤ nestedDocuments) × (w .at ≤ farItems)
         × Fits (length (now out)) (w .at) (length (bytesFor (tables (now doc) (now names) (now qnames) (now classes) (now qclasses)) (now slots) (now qslots) (baseAt (w .depth)) item)) ⌝ }
     ensures { λ r. ⌜ Wrote (tables (now (doc .entry)) (now (names .entry)) (now (qnames .entry)) (now (classes .entry)) (now (qclasses .entry)))
         (now (slots .entry)) (now (qslots .entry)) (now (out .entry)) (now (slots .exit)) (now (qslots .exit)) (now (out .exit)) w item r ⌝ }

@@ -5,9 +5,10 @@ ghost use Prim.Native.Nat.{_+_, _*_, _≤_};
 ghost use lib.ListN.{length};
 ghost use Rattle.number.specs.Number.{shortest};
 ghost use Rattle.machine.specs.Tables.{NamesInside};
-ghost use Rattle.form_output.specs.Output.{Fits, Put};
-ghost use Rattle.form_slots.specs.Slots.{slotsAfter, numberIn, Low, PartsFit, slotCount, region};
+ghost use Rattle.form_output.specs.Output.{Fits, Put, farNames, farQnames};
+ghost use Rattle.form_slots.specs.Slots.{slotsAfter, numberIn, Low, PartsFit, slotCount, region, lowNames, lowQnames};
 ghost use Rattle.form_names.specs.Naming.{bytesBefore, slots3, textsBefore, qnameNumbers, qnameBefore, namesAfter};
+ghost use Rattle.token.specs.Tokens.{nameRows, qnameRows};
 use form_slots::Parts;
 
 // Defines the text of a class, unless it is empty or defined; gives the place after it.
@@ -21,7 +22,7 @@ pub fn define_name(
     base: usize,
     class: usize,
 ) -> usize
-    requires { ⌜ NamesInside (now doc) (now names) rows × (class ≤ rows) × (base + region ≤ slotCount) × Low 20000 (now slots) × (at ≤ 1000000000000)
+    requires { ⌜ NamesInside (now doc) (now names) rows × (class ≤ rows) × (base + region ≤ slotCount) × Low lowNames (now slots) × (at ≤ farNames)
         × Fits (length (now out)) at (length (bytesBefore (now doc) (now names) (now slots) base class)) ⌝ }
     ensures { λ r. ⌜ Put (now (out .entry)) (now (out .exit)) at r (bytesBefore (now (doc .entry)) (now (names .entry)) (now (slots .entry)) base class)
         × (now (slots .exit) ≡ slotsAfter (now (slots .entry)) base class) ⌝ }
@@ -55,7 +56,7 @@ fn define_texts(
     base: usize,
     q: Parts,
 ) -> usize
-    requires { ⌜ NamesInside (now doc) (now names) rows × PartsFit rows q × (base + region ≤ slotCount) × Low 19000 (now slots) × (at ≤ 900000000000)
+    requires { ⌜ NamesInside (now doc) (now names) rows × PartsFit rows q × (base + region ≤ slotCount) × Low lowQnames (now slots) × (at ≤ farQnames)
         × Fits (length (now out)) at (length (textsBefore (now doc) (now names) (now slots) base q)) ⌝ }
     ensures { λ r. ⌜ Put (now (out .entry)) (now (out .exit)) at r (textsBefore (now (doc .entry)) (now (names .entry)) (now (slots .entry)) base q)
         × (now (slots .exit) ≡ slots3 (now (slots .entry)) base q) ⌝ }
@@ -73,7 +74,7 @@ fn put_qname(
     base: usize,
     q: Parts,
 ) -> usize
-    requires { ⌜ PartsFit 1024 q × (base + region ≤ slotCount) × Low 20000 (now slots) × (at ≤ 1000000000000) ⌝ }
+    requires { ⌜ PartsFit nameRows q × (base + region ≤ slotCount) × Low lowNames (now slots) × (at ≤ farNames) ⌝ }
     ensures { λ r. ⌜ Put (now (out .entry)) (now (out .exit)) at r (qnameNumbers (now (slots .entry)) base q) ⌝ }
 {
     form_output::put(out, at, token::QNAMEDEF_TOKEN);
@@ -95,8 +96,8 @@ fn define_qname(
     q: Parts,
     class: usize,
 ) -> usize
-    requires { ⌜ NamesInside (now doc) (now names) rows × PartsFit rows q × (1 ≤ class) × (class ≤ 1024) × (base + region ≤ slotCount) × Low 19000 (now slots)
-        × Low 19000 (now qslots) × (at ≤ 900000000000)
+    requires { ⌜ NamesInside (now doc) (now names) rows × PartsFit rows q × (1 ≤ class) × (class ≤ qnameRows) × (base + region ≤ slotCount) × Low lowQnames (now slots)
+        × Low lowQnames (now qslots) × (at ≤ farQnames)
         × Fits (length (now out)) at (length (qnameBefore (now doc) (now names) (now slots) (now qslots) base q class)) ⌝ }
     ensures { λ r. ⌜ Put (now (out .entry)) (now (out .exit)) at r (qnameBefore (now (doc .entry)) (now (names .entry)) (now (slots .entry)) (now (qslots .entry)) base q class)
         × (now (slots .exit) ≡ namesAfter (now (slots .entry)) (now (qslots .entry)) base q class)
@@ -124,8 +125,8 @@ pub fn refer(
     q: Parts,
     class: usize,
 ) -> usize
-    requires { ⌜ NamesInside (now doc) (now names) rows × PartsFit rows q × (1 ≤ class) × (class ≤ 1024) × (base + region ≤ slotCount) × Low 19000 (now slots)
-        × Low 19000 (now qslots) × (at ≤ 900000000000)
+    requires { ⌜ NamesInside (now doc) (now names) rows × PartsFit rows q × (1 ≤ class) × (class ≤ qnameRows) × (base + region ≤ slotCount) × Low lowQnames (now slots)
+        × Low lowQnames (now qslots) × (at ≤ farQnames)
         × Fits (length (now out)) at (length (qnameBefore (now doc) (now names) (now slots) (now qslots) base q class)) ⌝ }
     ensures { λ r. ⌜ Put (now (out .entry)) (now (out .exit)) at r (qnameBefore (now (doc .entry)) (now (names .entry)) (now (slots .entry)) (now (qslots .entry)) base q class
         ++ (token ∷ shortest (numberIn (slotsAfter (now (qslots .entry)) base class) base class)))

@@ -5,7 +5,8 @@ ghost use lib.ListN.{length, set};
 ghost use lib.Seq.{sets};
 ghost use Rattle.sequences.specs.Lists.{part};
 ghost use Rattle.number.specs.Number.{shortest};
-ghost use Rattle.form_output.specs.Output.{Fits, Put};
+ghost use Rattle.form_output.specs.Output.{Fits, Put, farBytes};
+ghost use Rattle.token.specs.Tokens.{longest, largest};
 
 pub fn put(out: &mut [u8], at: usize, byte: u8)
     ensures { λ _. ⌜ now (out .exit) ≡ set (now (out .entry)) at byte ⌝ }
@@ -17,7 +18,7 @@ pub fn put(out: &mut [u8], at: usize, byte: u8)
 
 // The shortest spelling of a number; gives the place after it.
 pub fn put_number(out: &mut [u8], at: usize, value: usize) -> usize
-    requires { ⌜ (value ≤ 2147483647) × (at ≤ 1099511627776) ⌝ }
+    requires { ⌜ (value ≤ largest) × (at ≤ farBytes) ⌝ }
     ensures { λ r. ⌜ Put (now (out .entry)) (now (out .exit)) at r (shortest value) ⌝ }
 {
     let mut left = value;
@@ -33,7 +34,7 @@ pub fn put_number(out: &mut [u8], at: usize, value: usize) -> usize
 
 // Copies bytes of the document to a place that has the room for them.
 fn copy(doc: &[u8], place: usize, size: usize, out: &mut [u8], at: usize)
-    requires { ⌜ (place + size ≤ length (now doc)) × (length (now doc) ≤ 65536) × (at + size ≤ length (now out)) ⌝ }
+    requires { ⌜ (place + size ≤ length (now doc)) × (length (now doc) ≤ longest) × (at + size ≤ length (now out)) ⌝ }
     ensures { λ _. ⌜ now (out .exit) ≡ sets (now (out .entry)) at (part (now (doc .entry)) place size) ⌝ }
 {
     let mut i: usize = 0;
@@ -45,7 +46,7 @@ fn copy(doc: &[u8], place: usize, size: usize, out: &mut [u8], at: usize)
 
 // Bytes of the document; measuring does not look at them. A number of at most five bytes may stand before them.
 pub fn lay(doc: &[u8], place: usize, size: usize, out: &mut [u8], at: usize) -> usize
-    requires { ⌜ (place + size ≤ length (now doc)) × (length (now doc) ≤ 65536) × (at ≤ 1099511627781) × Fits (length (now out)) at size ⌝ }
+    requires { ⌜ (place + size ≤ length (now doc)) × (length (now doc) ≤ longest) × (at ≤ farBytes + 5) × Fits (length (now out)) at size ⌝ }
     ensures { λ r. ⌜ Put (now (out .entry)) (now (out .exit)) at r (part (now (doc .entry)) place size) ⌝ }
 {
     if out.len() <= at {
@@ -57,7 +58,7 @@ pub fn lay(doc: &[u8], place: usize, size: usize, out: &mut [u8], at: usize) -> 
 
 // Bytes of the document.
 pub fn put_part(doc: &[u8], place: usize, size: usize, out: &mut [u8], at: usize) -> usize
-    requires { ⌜ (place + size ≤ length (now doc)) × (length (now doc) ≤ 65536) × (at ≤ 1099511627776) × Fits (length (now out)) at size ⌝ }
+    requires { ⌜ (place + size ≤ length (now doc)) × (length (now doc) ≤ longest) × (at ≤ farBytes) × Fits (length (now out)) at size ⌝ }
     ensures { λ r. ⌜ Put (now (out .entry)) (now (out .exit)) at r (part (now (doc .entry)) place size) ⌝ }
 {
     lay(doc, place, size, out, at)

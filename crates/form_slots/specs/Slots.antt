@@ -9,13 +9,24 @@ use lib.ListN.{length, getD, set}
 use Rattle.form_slots.specs.declared.Parts.{Parts}
 use Rattle.classes.specs.Search.{classAt}
 use Rattle.token.specs.Tokens.{qnameWidth}
+use Rattle.machine.specs.Tables.{classCount}
 
 -- the numbers of one document's region, and those of all: the outer document and 8 nested ones
 abbrev pub region : ℕ
-region = 1025
+region = classCount
 
 abbrev pub slotCount : ℕ
 slotCount = 9225
+
+-- what slots hold at most before a name, a qname and an item is defined
+abbrev pub lowNames : ℕ
+lowNames = 20000
+
+abbrev pub lowQnames : ℕ
+lowQnames = 19000
+
+abbrev pub lowItems : ℕ
+lowItems = 15000
 
 -- a class that has to be defined; class 0 is the empty text
 abbrev pub isNew : List ℕ → ℕ → ℕ → Bool

@@ -2,14 +2,14 @@
 ghost use mathlib.Core.Path.{_≡_};
 ghost use Prim.Native.Nat.{_+_, _*_, _≤_, _<_};
 ghost use lib.ListN.{length, getD};
-ghost use Rattle.form_slots.specs.Slots.{marked, numberIn, partsAt, Low, Cleared, slotCount, region};
-ghost use Rattle.token.specs.Tokens.{qnameWidth};
+ghost use Rattle.form_slots.specs.Slots.{marked, numberIn, partsAt, Low, Cleared, slotCount, region, lowNames};
+ghost use Rattle.token.specs.Tokens.{qnameWidth, nameRows, qnameRows};
 
 // The numbers of one document: how many classes are defined, and the number of each.
-pub const REGION: usize = 1025;
+pub const REGION: usize = token::NAME_ROWS + 1;
 
 // A region for the outer document and for each nested one.
-pub const SLOTS: usize = 9225;
+pub const SLOTS: usize = REGION * (token::NESTED_DOCUMENTS + 1);
 
 // The classes of a qname's URI, prefix and local name.
 pub struct Parts {
@@ -20,8 +20,8 @@ pub struct Parts {
 
 // The classes of the names of qname row k, counted from 0.
 pub fn parts_at(qnames: &[u32], classes: &[u32; token::NAME_ROWS], k: usize) -> Parts
-    requires { ⌜ (k < 1024) × (qnameWidth * k + qnameWidth ≤ length (now qnames)) × (getD (now qnames) (qnameWidth * k) 0 ≤ 1024)
-        × (getD (now qnames) (qnameWidth * k + 1) 0 ≤ 1024) × (getD (now qnames) (qnameWidth * k + 2) 0 ≤ 1024) ⌝ }
+    requires { ⌜ (k < qnameRows) × (qnameWidth * k + qnameWidth ≤ length (now qnames)) × (getD (now qnames) (qnameWidth * k) 0 ≤ nameRows)
+        × (getD (now qnames) (qnameWidth * k + 1) 0 ≤ nameRows) × (getD (now qnames) (qnameWidth * k + 2) 0 ≤ nameRows) ⌝ }
     ensures { λ r. ⌜ r ≡ partsAt (now (qnames .entry)) (now (classes .entry)) k ⌝ }
 {
     let uri = classes::class_at(classes, slices::cell(qnames, token::QNAME_WIDTH * k)) as usize;
@@ -49,7 +49,7 @@ pub fn number_in(slots: &[u32; SLOTS], base: usize, class: usize) -> usize
 
 // Gives a class the next number.
 pub fn mark(slots: &mut [u32; SLOTS], base: usize, class: usize)
-    requires { ⌜ (base + class < slotCount) × Low 20000 (now slots) ⌝ }
+    requires { ⌜ (base + class < slotCount) × Low lowNames (now slots) ⌝ }
     ensures { λ _. ⌜ now (slots .exit) ≡ marked (now (slots .entry)) base class ⌝ }
 {
     let count = slots[base] + 1;

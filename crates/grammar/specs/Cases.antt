@@ -5,12 +5,16 @@ use mathlib.Core.Option.{Option, some}
 use Rattle.plan.specs.Text.{textOf}
 use Rattle.machine.specs.Machine.{NameRow, QnameRow, EventRow, Result}
 use Rattle.machine.specs.Machine as machine
-use Rattle.machine.specs.Examples.{H, full}
+use Rattle.machine.specs.Examples.{H, full, Case, case}
 
--- a document with the answer number and its place, no case has a row; or a token with its payload and the units of its text
-pub data Case : Type 0 where
-  reading : List ℕ → ℕ → ℕ → Case
-  text : ℕ → List ℕ → List ℕ → Case
+-- a case of reading, none has a row; or a token with its payload and the units of its text
+pub data Worked : Type 0 where
+  read : Case → Worked
+  text : ℕ → List ℕ → List ℕ → Worked
+
+-- a document with the answer number and its place
+abbrev reading : List ℕ → ℕ → ℕ → Worked
+reading document number place = read (case document number place)
 
 -- what a job gives: an answer number, its place and the three tables; or the units of a text, if there is one
 pub data Given : Type 0 where
@@ -18,19 +22,19 @@ pub data Given : Type 0 where
   units : Option (List ℕ) → Given
 
 -- what 01 says
-abbrev pub said : Case → Given
-said (reading document number place) = answer number place [] [] []
+abbrev pub said : Worked → Given
+said (read c) = answer (c .number) (c .place) [] [] []
 said (text token payload written) = units (some written)
 
 abbrev answered : Result → Given
 answered r = answer (r .number) (r .place) (r .final .names) (r .final .qnames) (r .final .events)
 
 -- what the definitions give, with tables at the full bounds
-abbrev pub given : Case → Given
-given (reading document number place) = answered (machine.reading document full)
+abbrev pub given : Worked → Given
+given (read c) = answered (machine.reading (c .document) full)
 given (text token payload written) = units (textOf token payload)
 
-abbrev pub cases : List Case
+abbrev pub cases : List Worked
 cases =
     -- empty input: 2 at 0
     reading [] 2 0

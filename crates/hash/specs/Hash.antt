@@ -2,8 +2,15 @@
 use Prim.Native.Nat.{ℕ, _+_, _*_, _/_, _%_}
 use mathlib.Core.List.{List, [], _∷_}
 
+-- the low half of a hash is below `word`, and its high half is the carry
+abbrev pub word : ℕ
+word = 4294967296
+
+abbrev pub multiplier : ℕ
+multiplier = 4294957665
+
 abbrev pub mixOf : ℕ → ℕ → ℕ
-mixOf h x = (h % 4294967296) * 4294957665 + h / 4294967296 + x
+mixOf h x = (h % word) * multiplier + h / word + x
 
 unfoldable pub hashFrom : ℕ → List ℕ → ℕ
 hashFrom h [] = h

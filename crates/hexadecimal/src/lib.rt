@@ -6,6 +6,7 @@ ghost use lib.ListN.{length, getD};
 ghost use lib.Seq.{sets};
 ghost use Rattle.sequences.specs.Lists.{overlay, bytesOf};
 ghost use Rattle.hexadecimal.specs.Hexadecimal.{hexDigit, hex};
+ghost use Rattle.token.specs.Tokens.{longest};
 
 // The hexadecimal digit of a number below 16.
 fn hex_digit(d: u8) -> u8
@@ -38,7 +39,7 @@ fn put_byte(out: &mut [u8], at: usize, b: u8)
 
 // Writes the hexadecimal text of `p` as UTF-16LE to the front of `out`; what stands past it stays.
 pub fn hex_into(p: &[u8], out: &mut [u8])
-    requires { ⌜ (length (now p) ≤ 65536) × (4 * length (now p) ≤ length (now out)) ⌝ }
+    requires { ⌜ (length (now p) ≤ longest) × (4 * length (now p) ≤ length (now out)) ⌝ }
     ensures { λ _. ⌜ now (out .exit) ≡ overlay (bytesOf (hex (now (p .entry)))) (now (out .entry)) ⌝ }
 {
     let mut i: usize = 0;

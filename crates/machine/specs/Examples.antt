@@ -1,7 +1,8 @@
--- 01's H, and the tables of the programs.
+-- 01's H, a case of reading, and the tables of the programs.
 use Prim.Native.Nat.{ℕ}
 use mathlib.Core.List.{List, [], _∷_}
 use Rattle.scan.specs.declared.Room.{Room}
+use Rattle.token.specs.Tokens.{nameRows, qnameRows, eventRows}
 
 -- 01's H
 abbrev pub H : List ℕ
@@ -9,4 +10,13 @@ H = 0xDF ∷ 0xFF ∷ 0x01 ∷ 0xB0 ∷ 0x04 ∷ []
 
 -- tables at the full bounds
 abbrev pub full : Room
-full = record { names = 1024; qnames = 1024; events = 4096 }
+full = record { names = nameRows; qnames = qnameRows; events = eventRows }
+
+-- a document, the answer number and its place
+pub record Case : Type 0 where
+  pub document : List ℕ
+  pub number : ℕ
+  pub place : ℕ
+
+abbrev pub case : List ℕ → ℕ → ℕ → Case
+case document number place = record { document = document; number = number; place = place }

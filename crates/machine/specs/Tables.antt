@@ -5,7 +5,11 @@ use lib.ListN.{length, getD, drop}
 use Rattle.machine.specs.Machine.{NameRow, QnameRow, EventRow, nameRow, qnameRow, event, Event, eventOf}
 use Rattle.sequences.specs.Lists.{Every}
 use Rattle.machine.specs.Facts.{NameFits, QnameFits, Placed}
-use Rattle.token.specs.Tokens.{nameWidth, qnameWidth, eventWidth}
+use Rattle.token.specs.Tokens.{nameWidth, qnameWidth, eventWidth, longest, nameRows, qnameRows, eventRows}
+
+-- the classes of texts of names: 0 for the empty text, and the number of a row
+abbrev pub classCount : ℕ
+classCount = 1025
 
 -- the rows that stand in the front of a lent table of numbers (01, "Rows")
 abbrev pub nameRowsIn : ℕ → List ℕ → List NameRow
@@ -26,12 +30,12 @@ eventsIn doc names qnames events rows qrows count = map (eventOf doc (nameRowsIn
 
 -- so many rows of names, qnames and events, which an accepted reading has made of the document
 pub record Filled (doc names qnames events : List ℕ) (rows qrows count : ℕ) : Type 0 where
-  pub short : length doc ≤ 65536
-  pub few : rows ≤ 1024
+  pub short : length doc ≤ longest
+  pub few : rows ≤ nameRows
   pub long : nameWidth * rows ≤ length names
-  pub qfew : qrows ≤ 1024
+  pub qfew : qrows ≤ qnameRows
   pub qlong : qnameWidth * qrows ≤ length qnames
-  pub efew : count ≤ 4096
+  pub efew : count ≤ eventRows
   pub elong : eventWidth * count ≤ length events
   pub names-fit : Every (NameFits (length doc)) (nameRowsIn rows names)
   pub qnames-fit : Every (QnameFits rows) (qnameRowsIn qrows qnames)
@@ -41,7 +45,7 @@ pub record Filled (doc names qnames events : List ℕ) (rows qrows count : ℕ) 
 
 -- so many rows of names, each text inside the document
 pub record NamesInside (doc names : List ℕ) (rows : ℕ) : Type 0 where
-  pub few : rows ≤ 1024
+  pub few : rows ≤ nameRows
   pub long : nameWidth * rows ≤ length names
-  pub short : length doc ≤ 65536
+  pub short : length doc ≤ longest
   pub inside : (k : ℕ) → k < rows → getD names (nameWidth * k) 0 + 2 * getD names (nameWidth * k + 1) 0 ≤ length doc

@@ -6,7 +6,8 @@ use mathlib.Core.List.{List}
 use lib.Dec.{leb}
 use lib.ListN.{length, getD}
 use Rattle.meaning.specs.Codes.{mark}
-use Rattle.marks.specs.Names.{pairOf, declaresAt}
+use Rattle.marks.specs.Names.{pairOf, largestPair, declaresAt}
+use Rattle.token.specs.Tokens.{qnameRows}
 
 -- ---- marks of rows of qnames, in a table from row 1 on
 
@@ -28,6 +29,6 @@ markOf doc names qnames classes rows row = mark 0 (pairOf qnames classes row) + 
 
 -- the table: at place row - 1 the mark of row `row`; the pairs are small, so that 2 ^ 31 more can be told from a mark alone
 pub record MarksOf (doc names qnames classes : List ℕ) (rows qrows : ℕ) (marks : List ℕ) : Type 0 where
-  pub long : length marks ≡ 1024
+  pub long : length marks ≡ qnameRows
   pub each : (row : ℕ) → 1 ≤ row → row ≤ qrows → getD marks (row - 1) 0 ≡ markOf doc names qnames classes rows row
-  pub small : (row : ℕ) → 1 ≤ row → row ≤ qrows → pairOf qnames classes row ≤ 1050624
+  pub small : (row : ℕ) → 1 ≤ row → row ≤ qrows → pairOf qnames classes row ≤ largestPair

@@ -7,13 +7,13 @@ use lib.ListN.{length, getD}
 use Rattle.machine.specs.Machine.{nameText}
 use Rattle.sequences.specs.Lists.{Every}
 use Rattle.machine.specs.Facts.{NameFits}
-use Rattle.machine.specs.Tables.{nameRowsIn}
+use Rattle.machine.specs.Tables.{nameRowsIn, classCount}
 use Rattle.form.specs.Canonical.{numberOf}
 use Rattle.classes.specs.Classes.{textsOf}
 use Rattle.meaning.specs.Meaning.{declares, xmlns}
 use mathlib.Core.Bool.{Bool}
 use Rattle.classes.specs.Search.{classAt, Keyable}
-use Rattle.token.specs.Tokens.{nameWidth, qnameWidth}
+use Rattle.token.specs.Tokens.{nameWidth, qnameWidth, qnameRows}
 
 -- the class of a text among those of the rows of names
 abbrev pub classIn : List ℕ → List ℕ → ℕ → List ℕ → ℕ
@@ -33,12 +33,15 @@ localAt doc names qnames rows row = nameText doc (nameRowsIn rows names) (getD q
 
 -- the classes of its URI and local as one number
 unfoldable pub pairOf : List ℕ → List ℕ → ℕ → ℕ
-pairOf qnames classes row = 1025 * classAt classes (getD qnames (qnameWidth * (row - 1)) 0) + classAt classes (getD qnames (qnameWidth * (row - 1) + 2) 0)
+pairOf qnames classes row = classCount * classAt classes (getD qnames (qnameWidth * (row - 1)) 0) + classAt classes (getD qnames (qnameWidth * (row - 1) + 2) 0)
+
+abbrev pub largestPair : ℕ
+largestPair = 1050624
 
 -- a row of qnames whose classes can be looked up
 pub record PairFits (qnames classes : List ℕ) (row : ℕ) : Type 0 where
   pub from : 1 ≤ row
-  pub few : row ≤ 1024
+  pub few : row ≤ qnameRows
   pub long : qnameWidth * row ≤ length qnames
   pub uri-key : Keyable classes (getD qnames (qnameWidth * (row - 1)) 0)
   pub local-key : Keyable classes (getD qnames (qnameWidth * (row - 1) + 2) 0)

@@ -5,8 +5,9 @@ ghost use Prim.Native.Nat.{ℕ, _≤_, _<_};
 ghost use lib.ListN.{length, take};
 ghost use Rattle.sequences.specs.Lists.{same};
 ghost use Rattle.meaning.specs.Meaning.{xmlns};
-ghost use Rattle.marks.specs.Names.{pairOf, PairFits, Named, declaresAt, xmlnsColon};
+ghost use Rattle.marks.specs.Names.{pairOf, PairFits, Named, declaresAt, xmlnsColon, largestPair};
 ghost use Rattle.marks.specs.Marks.{markOf, MarksOf};
+ghost use Rattle.token.specs.Tokens.{qnameRows};
 
 // Added to the mark of a qname that declares a prefix.
 pub const DECLARING: u32 = 2147483648;
@@ -16,7 +17,7 @@ pub const DECLARING: u32 = 2147483648;
 // The classes of URI and local of a row of qnames as one number.
 fn pair_at(qnames: &[u32], classes: &[u32; token::NAME_ROWS], row: usize) -> u32
     requires { ⌜ PairFits (now qnames) (now classes) row ⌝ }
-    ensures { λ r. ⌜ (r ≡ pairOf (now (qnames .entry)) (now (classes .entry)) row) × (r ≤ 1050624) ⌝ }
+    ensures { λ r. ⌜ (r ≡ pairOf (now (qnames .entry)) (now (classes .entry)) row) × (r ≤ largestPair) ⌝ }
 {
     let first = token::QNAME_WIDTH * (row - 1);
     let uri = classes::class_of(qnames, classes, first);
@@ -82,9 +83,9 @@ fn mark_at(
 ) -> u32
     requires { ⌜ Named (now doc) (now names) (now qnames) (now classes) rows row ⌝ }
     ensures { λ r. ⌜ (r ≡ markOf (now (doc .entry)) (now (names .entry)) (now (qnames .entry)) (now (classes .entry)) rows row)
-        × (pairOf (now (qnames .entry)) (now (classes .entry)) row ≤ 1050624) ⌝ }
+        × (pairOf (now (qnames .entry)) (now (classes .entry)) row ≤ largestPair) ⌝ }
 {
-    let opening = 65536 + 8 * pair_at(qnames, classes, row);
+    let opening = meaning::FIRST_MARK + meaning::MARK_KINDS * pair_at(qnames, classes, row);
     if declares_at(doc, names, qnames, classes, rows, row) {
         return opening + DECLARING;
     }
@@ -101,7 +102,7 @@ pub fn fill(
     qrows: usize,
     marks: &mut [u32; token::QNAME_ROWS],
 )
-    requires { ⌜ (qrows ≤ 1024) × (length (now marks) ≡ 1024)
+    requires { ⌜ (qrows ≤ qnameRows) × (length (now marks) ≡ qnameRows)
         × ((row : ℕ) → 1 ≤ row → row ≤ qrows → Named (now doc) (now names) (now qnames) (now classes) rows row) ⌝ }
     ensures { λ _. ⌜ MarksOf (now (doc .entry)) (now (names .entry)) (now (qnames .entry)) (now (classes .entry)) rows qrows (now (marks .exit)) ⌝ }
 {

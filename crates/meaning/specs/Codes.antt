@@ -6,14 +6,23 @@ use mathlib.Core.List.{List, [], _∷_, _++_, map}
 use lib.ListN.{length}
 use Rattle.sequences.specs.Lists.{Bytes}
 use Rattle.meaning.specs.Meaning.{Symbol, unit, opening, ending, attribute, closing, value, qname}
+use Rattle.token.specs.Tokens.{nameRows}
+use Rattle.machine.specs.Tables.{classCount}
 
--- a mark: its kind, below 8, and its payload; a unit is below every mark
+-- the first mark, and the kinds of marks
+abbrev pub firstMark : ℕ
+firstMark = 65536
+
+abbrev pub markKinds : ℕ
+markKinds = 8
+
+-- a mark: its kind and its payload; a unit is below every mark
 unfoldable pub mark : ℕ → ℕ → ℕ
-mark kind payload = 65536 + 8 * payload + kind
+mark kind payload = firstMark + markKinds * payload + kind
 
 -- the payload of a mark with URI and local texts
 abbrev pub both : (List ℕ → ℕ) → List ℕ → List ℕ → ℕ
-both cls uri local = 1025 * cls uri + cls local
+both cls uri local = classCount * cls uri + cls local
 
 -- one number for a symbol, and one more for each byte of a value without text
 abbrev pub codeOf : (List ℕ → ℕ) → Symbol → List ℕ
@@ -46,12 +55,12 @@ symbolSizes (s ∷ l) = symbolSize s + symbolSizes l
 
 -- the classes of known texts are at most 1,024, and equal only for equal texts
 pub record Classes (Known : List ℕ → Type 0) (cls : List ℕ → ℕ) : Type 0 where
-  pub small : (t : List ℕ) → Known t → cls t ≤ 1024
+  pub small : (t : List ℕ) → Known t → cls t ≤ nameRows
   pub apart : (t u : List ℕ) → Known t → Known u → cls t ≡ cls u → t ≡ u
 
 -- what holds of each symbol of a document whose names' texts are known
 abbrev pub Coded : (List ℕ → Type 0) → Symbol → Type 0
-Coded Known (unit u) = u < 65536
+Coded Known (unit u) = u < firstMark
 Coded Known (opening uri local) = Known uri × Known local
 Coded Known (attribute uri local) = Known uri × Known local
 Coded Known (qname uri local) = Known uri × Known local

@@ -1,13 +1,15 @@
 -- The hash of a text, byte after byte, and the text of a row beside another. Assumes nothing.
 use Prim.Native.Nat.{ℕ, suc, _+_, _-_, _*_, _%_, _≤_, _<_}
 use mathlib.Core.Path.{_≡_, sym, _∙_}
-use mathlib.Core.Bool.{Bool}
+use mathlib.Core.Bool.{Bool, false}
 use mathlib.Core.List.{List, _∷_}
 use native.Mathlib.Nat.{add-zero, sub-zero}
 use native.Mathlib.Omega.{arith}
 use lib.ListN.{length, getD, take, drop}
 use lib.Seq.{drop-cons}
 use Rattle.sequences.specs.Lists.{part, same}
+use Rattle.sequences.proofs.Same.{differ-long}
+use Rattle.sequences.proofs.Overlay.{part-length}
 use Rattle.classes.specs.Classes.{textHashFrom, textHash}
 
 part-cons : (l : List ℕ) (p n : ℕ) → p < length l → part l p (suc n) ≡ getD l p 0 ∷ part l (suc p) n
@@ -44,3 +46,9 @@ row-same doc r x y g₀ g₁ place units e a b =
     let i : x + 2 * y - x ≡ 2 * y = omega arith in
     let j : place + 2 * units - place ≡ 2 * units = omega arith in
     rw (← a, ← b, ← i, ← j) e
+
+-- texts of different lengths
+pub unlike : (doc : List ℕ) (a b u v : ℕ) → a + 2 * u ≤ length doc → b + 2 * v ≤ length doc → (u ≡ v → ⊥)
+    → false ≡ same (part doc a (2 * u)) (part doc b (2 * v))
+unlike doc a b u v ha hb h =
+    differ-long (part doc a (2 * u)) (part doc b (2 * v)) (λ e. h (omega (arith, e, part-length doc a (2 * u) ha, part-length doc b (2 * v) hb)))

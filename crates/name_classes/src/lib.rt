@@ -9,21 +9,26 @@ ghost use Rattle.sequences.specs.Lists.{Front, part, same, Every};
 ghost use Rattle.machine.specs.Facts.{NameFits};
 ghost use Rattle.machine.specs.Tables.{nameRowsIn, NamesInside};
 ghost use Rattle.classes.specs.Classes.{nameClasses, textHash};
-ghost use Rattle.classes.specs.Search.{rowTextAt, slotOf, Last, Chained};
-ghost use Rattle.token.specs.Tokens.{nameWidth};
+ghost use Rattle.classes.specs.Search.{rowTextAt, slotOf, Last, Chained, hashSlots};
+ghost use Rattle.token.specs.Tokens.{nameWidth, longest, nameRows};
 
 // The slots, as a hash has them.
 const MODULUS: u64 = classes::SLOTS as u64;
 
+// What a byte's place counts in the hash, and the hashes.
+const FACTOR: u64 = 31;
+
+const WORD: u64 = 4294967296;
+
 // Equal texts have equal hashes.
 fn hash_of(doc: &[u8], place: usize, size: usize) -> u64
-    requires { ⌜ (place + size ≤ length (now doc)) × (length (now doc) ≤ 65536) ⌝ }
+    requires { ⌜ (place + size ≤ length (now doc)) × (length (now doc) ≤ longest) ⌝ }
     ensures { λ r. ⌜ r ≡ textHash (part (now (doc .entry)) place size) ⌝ }
 {
     let mut h: u64 = 0;
     let mut i: usize = 0;
     while i < size {
-        h = (h * 31 + doc[place + i] as u64) % 4294967296;
+        h = (h * FACTOR + doc[place + i] as u64) % WORD;
         i += 1;
     }
     h
@@ -31,7 +36,7 @@ fn hash_of(doc: &[u8], place: usize, size: usize) -> u64
 
 // Whether row `j` of names has this text.
 fn same_row(doc: &[u8], names: &[u32], j: usize, place: usize, units: usize) -> bool
-    requires { ⌜ (j < 1024) × (nameWidth * j + nameWidth ≤ length (now names)) × (length (now doc) ≤ 65536) × (place + 2 * units ≤ length (now doc))
+    requires { ⌜ (j < nameRows) × (nameWidth * j + nameWidth ≤ length (now names)) × (length (now doc) ≤ longest) × (place + 2 * units ≤ length (now doc))
         × (getD (now names) (nameWidth * j) 0 + 2 * getD (now names) (nameWidth * j + 1) 0 ≤ length (now doc)) ⌝ }
     ensures { λ r. ⌜ r ≡ same (rowTextAt (now (doc .entry)) (now (names .entry)) j) (part (now (doc .entry)) place (2 * units)) ⌝ }
 {
@@ -44,7 +49,7 @@ fn same_row(doc: &[u8], names: &[u32], j: usize, place: usize, units: usize) -> 
 // The slot of row `r` of names.
 fn slot_of(doc: &[u8], names: &[u32], r: usize) -> usize
     requires { ⌜ NamesInside (now doc) (now names) (r + 1) ⌝ }
-    ensures { λ s. ⌜ (s ≡ slotOf (rowTextAt (now (doc .entry)) (now (names .entry)) r)) × (s < 2039) ⌝ }
+    ensures { λ s. ⌜ (s ≡ slotOf (rowTextAt (now (doc .entry)) (now (names .entry)) r)) × (s < hashSlots) ⌝ }
 {
     let hash = hash_of(
         doc,
@@ -54,8 +59,14 @@ fn slot_of(doc: &[u8], names: &[u32], r: usize) -> usize
     (hash % MODULUS) as usize
 }
 
-// The last row before row `r` of names with its text, along the chain of its slot from row `first` on; 1024 where there is none.
-fn find_name(doc: &[u8], names: &[u32], chain: &[u16; 1024], first: usize, r: usize) -> usize
+// The last row before row `r` of names with its text, along the chain of its slot from row `first` on; `NAME_ROWS` where there is none.
+fn find_name(
+    doc: &[u8],
+    names: &[u32],
+    chain: &[u16; token::NAME_ROWS],
+    first: usize,
+    r: usize,
+) -> usize
     requires { ⌜ NamesInside (now doc) (now names) (r + 1)
         × Chained (λ k. slotOf (rowTextAt (now doc) (now names) k)) r (now chain)
         × Last (λ k. slotOf (rowTextAt (now doc) (now names) k)) (slotOf (rowTextAt (now doc) (now names) r)) r first ⌝ }
@@ -64,7 +75,7 @@ fn find_name(doc: &[u8], names: &[u32], chain: &[u16; 1024], first: usize, r: us
     let place = slices::cell(names, token::NAME_WIDTH * r);
     let units = slices::cell(names, token::NAME_WIDTH * r + 1);
     let mut j = first;
-    while j < 1024 {
+    while j < token::NAME_ROWS {
         if same_row(doc, names, j, place, units) {
             return j;
         }
@@ -75,7 +86,7 @@ fn find_name(doc: &[u8], names: &[u32], chain: &[u16; 1024], first: usize, r: us
 
 // The class of row `r` of names where no earlier row has its text: 0 for the empty text.
 fn own_class(names: &[u32], r: usize) -> u32
-    requires { ⌜ (r < 1024) × (nameWidth * r + nameWidth ≤ length (now names)) ⌝ }
+    requires { ⌜ (r < nameRows) × (nameWidth * r + nameWidth ≤ length (now names)) ⌝ }
     ensures { λ c. ⌜ c ≡ cond (eqb (getD (now (names .entry)) (nameWidth * r + 1) 0) 0) 0 (r + 1) ⌝ }
 {
     if slices::cell(names, token::NAME_WIDTH * r + 1) == 0 {
@@ -86,15 +97,15 @@ fn own_class(names: &[u32], r: usize) -> u32
 
 // The class of each of the first `count` rows of names.
 pub fn name_classes(doc: &[u8], names: &[u32], count: usize, classes: &mut [u32; token::NAME_ROWS])
-    requires { ⌜ (count ≤ 1024) × (nameWidth * count ≤ length (now names)) × (length (now doc) ≤ 65536) × (length (now classes) ≡ 1024)
+    requires { ⌜ (count ≤ nameRows) × (nameWidth * count ≤ length (now names)) × (length (now doc) ≤ longest) × (length (now classes) ≡ nameRows)
         × Every (NameFits (length (now doc))) (nameRowsIn count (now names)) ⌝ }
     ensures { λ _. ⌜ Front (nameClasses (now (doc .entry)) (nameRowsIn count (now (names .entry)))) (now (classes .exit))
-        × (length (now (classes .exit)) ≡ 1024) ⌝ }
+        × (length (now (classes .exit)) ≡ nameRows) ⌝ }
 {
-    // The last row of each slot, or 1024, and for each row the one before it in its slot, written before it is read. A first
+    // The last row of each slot, or none, and for each row the one before it in its slot, written before it is read. A first
     // value whose bytes differ is stored by vector instructions, not by memset.
-    let mut slots = [1024u16; classes::SLOTS];
-    let mut chain = [1u16; 1024];
+    let mut slots = [classes::NO_ROW; classes::SLOTS];
+    let mut chain = [1u16; token::NAME_ROWS];
     let mut r: usize = 0;
     while r < count {
         let s = slot_of(doc, names, r);

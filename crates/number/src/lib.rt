@@ -4,7 +4,13 @@ ghost use mathlib.Core.Path.{_≡_};
 ghost use Prim.Native.Nat.{_+_, _*_, _≤_, _<_, min};
 ghost use lib.ListN.{length};
 ghost use Rattle.number.specs.Number.{numberAt, sizeOf};
-ghost use Rattle.number.specs.Bounds.{Within};
+ghost use Rattle.number.specs.Bounds.{Within, overLargest, scaleEnd};
+ghost use Rattle.token.specs.Tokens.{largest};
+
+// One past the largest value; and what a one counts past the bytes of any such value.
+const OVER_LARGEST: usize = token::LARGEST + 1;
+
+const SCALE_END: usize = 34359738368;
 
 pub enum Number {
     Is { value: usize, next: usize },
@@ -13,24 +19,24 @@ pub enum Number {
 
 // The value with seven bits more, or one past the largest value where it is over that: so no length of a number wraps.
 fn grown(value: usize, scale: usize, bits: usize) -> usize
-    requires { ⌜ (value ≤ 2147483648) × (scale ≤ 34359738368) × (bits < 128) ⌝ }
-    ensures { λ r. ⌜ r ≡ min (value + bits * scale) 2147483648 ⌝ }
+    requires { ⌜ (value ≤ overLargest) × (scale ≤ scaleEnd) × (bits < 128) ⌝ }
+    ensures { λ r. ⌜ r ≡ min (value + bits * scale) overLargest ⌝ }
 {
     let sum = value + bits * scale;
-    if sum < 2147483648 { sum } else { 2147483648 }
+    if sum < OVER_LARGEST {
+        sum
+    } else {
+        OVER_LARGEST
+    }
 }
 
 // What a one in the next byte counts, or a number whose every multiple is over the largest value.
 fn raised(scale: usize) -> usize
-    requires { ⌜ scale ≤ 34359738368 ⌝ }
-    ensures { λ r. ⌜ r ≡ min (scale * 128) 34359738368 ⌝ }
+    requires { ⌜ scale ≤ scaleEnd ⌝ }
+    ensures { λ r. ⌜ r ≡ min (scale * 128) scaleEnd ⌝ }
 {
     let next = scale * 128;
-    if next < 34359738368 {
-        next
-    } else {
-        34359738368
-    }
+    if next < SCALE_END { next } else { SCALE_END }
 }
 
 // The number of at most `most` bytes at a place: its value and the place after it, or 2 at the document's length,

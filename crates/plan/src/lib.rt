@@ -4,7 +4,7 @@ ghost use mathlib.Core.Bool.{false, true};
 ghost use Prim.Native.Nat.{_+_, _^_, _≤_, _<_};
 ghost use lib.ListN.{length};
 ghost use Rattle.token.specs.Entries.{Listed};
-ghost use Rattle.token.specs.Tokens.{shapeOf};
+ghost use Rattle.token.specs.Tokens.{shapeOf, longest};
 ghost use Rattle.rules.specs.Rules.{lawful};
 ghost use Rattle.chunks.specs.Chunks.{wordSize};
 ghost use Rattle.plan.specs.Text.{kindOf, shown, textOf, isSame};
@@ -154,7 +154,7 @@ fn decimal(p: &[u8]) -> Plan
 
 // The plan of a payload that obeys its token's rule.
 fn plan_kind(kind: Kind, p: &[u8]) -> Plan
-    requires { ⌜ Ruled kind (now p) × (length (now p) ≤ 65536) ⌝ }
+    requires { ⌜ Ruled kind (now p) × (length (now p) ≤ longest) ⌝ }
     ensures { λ r. ⌜ Means (shown kind (now (p .entry))) (isSame kind) (now (p .entry)) r ⌝ }
 {
     match kind {
@@ -171,7 +171,7 @@ fn plan_kind(kind: Kind, p: &[u8]) -> Plan
 
 // The plan of a payload that is known to obey its token's rule and not to be too long: neither is tested again.
 pub fn plan_lawful(token: u8, payload: &[u8]) -> Plan
-    requires { ⌜ (lawful (shapeOf token) (now payload) ≡ true) × (length (now payload) ≤ 65536) ⌝ }
+    requires { ⌜ (lawful (shapeOf token) (now payload) ≡ true) × (length (now payload) ≤ longest) ⌝ }
     ensures { λ r. ⌜ Means (textOf token (now (payload .entry))) (isSame (kindOf token)) (now (payload .entry)) r ⌝ }
 {
     plan_kind(kind_of(token), payload)

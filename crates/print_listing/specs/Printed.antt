@@ -31,9 +31,13 @@ unfoldable pub answerLines : Answer → List Pair → List ℕ
 answerLines a ps =
     cond (eqb (a .number) accepted) (line recordsWord (a .records) pairsWord (a .pairs) ++ pairLines ps) (line refusedWord (a .number) atWord (a .place))
 
--- tables at the full bounds, and a list of 8,192 pairs
+-- the pairs that the program's list holds
+abbrev pub listedPairs : ℕ
+listedPairs = 8192
+
+-- tables at the full bounds
 unfoldable pub printed : List ℕ → List ℕ
-printed doc = answerLines (listAnswer doc (reading doc full) 8192) (pairsIn doc (reading doc full))
+printed doc = answerLines (listAnswer doc (reading doc full) listedPairs) (pairsIn doc (reading doc full))
 
 -- ---- the pairs as numbers
 
@@ -44,5 +48,5 @@ pairRows (suc n) l = pair (getD l 0 0) (getD l 1 0) ∷ pairRows n (drop 2 l)
 
 -- listing with tables at the full bounds: the answer, and the list afterwards
 pub record FullListed (doc list list′ : List ℕ) (a : Answer) : Type 0 where
-  pub answer-is : a ≡ listAnswer doc (reading doc full) 8192
+  pub answer-is : a ≡ listAnswer doc (reading doc full) listedPairs
   pub list-is : list′ ≡ listOf doc (reading doc full) list

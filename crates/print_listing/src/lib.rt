@@ -6,15 +6,20 @@ ghost use Prim.Native.Nat.{_+_, _*_, _≤_};
 ghost use lib.ListN.{length, take};
 ghost use Rattle.print_lines.specs.Lines.{PutBefore};
 ghost use Rattle.print_listing.specs.Printed.{pairLines, printed, pairRows, FullListed};
+ghost use Rattle.token.specs.Tokens.{longest};
+ghost use Rattle.print_listing.specs.Room.{pairLine, firstLine, listingSize, pairNumbers};
 use lister_contract::Answer;
 
 // The bytes of the longest text that is printed.
 pub const PRINTED: usize = 180280;
 
+// The numbers of the list of pairs.
+const LIST: usize = 16384;
+
 // A line for each of the first `count` pairs of a list, at the end of the text.
 fn put_pairs(text: &mut [u8], pairs: &[u32], count: usize) -> usize
-    requires { ⌜ (2 * count ≤ length (now pairs)) × (56 + 22 * count ≤ length (now text)) ⌝ }
-    ensures { λ r. ⌜ PutBefore (now (text .entry)) (now (text .exit)) (length (now (text .entry))) r (pairLines (pairRows count (now (pairs .entry)))) × (56 ≤ r) ⌝ }
+    requires { ⌜ (2 * count ≤ length (now pairs)) × (firstLine + pairLine * count ≤ length (now text)) ⌝ }
+    ensures { λ r. ⌜ PutBefore (now (text .entry)) (now (text .exit)) (length (now (text .entry))) r (pairLines (pairRows count (now (pairs .entry)))) × (firstLine ≤ r) ⌝ }
 {
     let mut at = text.len();
     let mut k = count;
@@ -29,7 +34,7 @@ fn put_pairs(text: &mut [u8], pairs: &[u32], count: usize) -> usize
 
 // Lists with tables at the full bounds.
 fn list_full(doc: &[u8], pairs: &mut [u32]) -> Answer
-    requires { ⌜ length (now pairs) ≡ 16384 ⌝ }
+    requires { ⌜ length (now pairs) ≡ pairNumbers ⌝ }
     ensures { λ r. ⌜ FullListed (now (doc .entry)) (now (pairs .entry)) (now (pairs .exit)) r ⌝ }
 {
     let mut names = [0u32; token::NAME_TABLE];
@@ -41,15 +46,15 @@ fn list_full(doc: &[u8], pairs: &mut [u32]) -> Answer
 // Lists a document and puts what the program prints at the end of `text`; gives the place where it begins. What stands before it stays. A line of a pair
 // has at most 22 bytes, the first line at most 56.
 pub fn print(doc: &[u8], text: &mut [u8]) -> usize
-    requires { ⌜ length (now text) ≡ 180280 ⌝ }
-    ensures { λ r. ⌜ (now (text .exit) ≡ take r (now (text .entry)) ++ printed (now (doc .entry))) × (r ≤ 180280) ⌝ }
+    requires { ⌜ length (now text) ≡ listingSize ⌝ }
+    ensures { λ r. ⌜ (now (text .exit) ≡ take r (now (text .entry)) ++ printed (now (doc .entry))) × (r ≤ listingSize) ⌝ }
 {
-    let mut pairs = [0u32; 16384];
+    let mut pairs = [0u32; LIST];
     let a = list_full(doc, &mut pairs);
     if a.number != 0 {
         return print_lines::put_line(
             text,
-            180280,
+            PRINTED,
             b"refused ",
             a.number as usize,
             b" at ",
@@ -62,7 +67,7 @@ pub fn print(doc: &[u8], text: &mut [u8]) -> usize
 
 // Zeros for the text that is printed. The `ensures` gives only their number, so that no proof computes with a list so long.
 pub fn blank() -> [u8; PRINTED]
-    ensures { λ r. ⌜ length r ≡ 180280 ⌝ }
+    ensures { λ r. ⌜ length r ≡ listingSize ⌝ }
 {
     [0; PRINTED]
 }

@@ -5,10 +5,12 @@ ghost use Prim.Native.Nat.{_+_, _≤_};
 ghost use lib.ListN.{length, take};
 ghost use Rattle.print_lines.specs.Lines.{PutBefore};
 ghost use Rattle.print_reading.specs.Printed.{verdict, counts, answerLine, printed};
+ghost use Rattle.token.specs.Tokens.{longest};
+ghost use Rattle.print_rows.specs.Room.{answerEnd, rowsEnd};
 use machine::Answer;
 
 // The bytes of the longest text that is printed.
-pub const PRINTED: usize = 239771;
+pub const PRINTED: usize = print_rows::ROWS_END;
 
 // ---- the first line
 
@@ -33,7 +35,7 @@ fn put_counts(
     events: usize,
     version: usize,
 ) -> usize
-    requires { ⌜ (155 ≤ end) × (end ≤ length (now text)) ⌝ }
+    requires { ⌜ (answerEnd ≤ end) × (end ≤ length (now text)) ⌝ }
     ensures { λ r. ⌜ PutBefore (now (text .entry)) (now (text .exit)) end r (counts names qnames events version) × (42 ≤ r) ⌝ }
 {
     let after = print_lines::put_word(text, end, b"\n");
@@ -47,7 +49,7 @@ fn put_counts(
 
 // The first line, before place `end`.
 pub fn put_answer(text: &mut [u8], end: usize, a: Answer) -> usize
-    requires { ⌜ (155 ≤ end) × (end ≤ length (now text)) ⌝ }
+    requires { ⌜ (answerEnd ≤ end) × (end ≤ length (now text)) ⌝ }
     ensures { λ r. ⌜ PutBefore (now (text .entry)) (now (text .exit)) end r (answerLine a) ⌝ }
 {
     let at = put_counts(text, end, a.names, a.qnames, a.events, a.version);
@@ -57,8 +59,8 @@ pub fn put_answer(text: &mut [u8], end: usize, a: Answer) -> usize
 // Reads a document into tables at the full bounds, and puts what the program prints at the end of `text`; gives the place
 // where it begins. What stands before it stays. A line of a name has at most 27 bytes, of a qname 39, of an event 42, and the first line 155.
 pub fn print(doc: &[u8], text: &mut [u8]) -> usize
-    requires { ⌜ length (now text) ≡ 239771 ⌝ }
-    ensures { λ r. ⌜ (now (text .exit) ≡ take r (now (text .entry)) ++ printed (now (doc .entry))) × (r ≤ 239771) ⌝ }
+    requires { ⌜ length (now text) ≡ rowsEnd ⌝ }
+    ensures { λ r. ⌜ (now (text .exit) ≡ take r (now (text .entry)) ++ printed (now (doc .entry))) × (r ≤ rowsEnd) ⌝ }
 {
     let mut names = [0u32; token::NAME_TABLE];
     let mut qnames = [0u32; token::QNAME_TABLE];
@@ -70,7 +72,7 @@ pub fn print(doc: &[u8], text: &mut [u8]) -> usize
 
 // Zeros for the text that is printed. The `ensures` gives only their number, so that no proof computes with a list so long.
 pub fn blank() -> [u8; PRINTED]
-    ensures { λ r. ⌜ length r ≡ 239771 ⌝ }
+    ensures { λ r. ⌜ length r ≡ rowsEnd ⌝ }
 {
     [0; PRINTED]
 }

@@ -7,13 +7,17 @@ ghost use Rattle.sequences.specs.Lists.{part};
 ghost use Rattle.machine.specs.Tables.{nameRowsIn, qnameRowsIn, eventRowsIn};
 ghost use Rattle.print_lines.specs.Lines.{PutBefore};
 ghost use Rattle.print_rows.specs.Rows.{rowLine, tokenDigits, eventWord, nameLines, qnameLines, eventLines, rowLines};
-ghost use Rattle.token.specs.Tokens.{nameWidth, qnameWidth, eventWidth};
+ghost use Rattle.token.specs.Tokens.{nameWidth, qnameWidth, eventWidth, nameRows, qnameRows, eventRows};
+ghost use Rattle.print_rows.specs.Room.{answerEnd, namesEnd, qnamesEnd, rowsEnd, nameLine, qnameLine, eventLine};
+
+// The bytes of the longest text that is printed, and so the place after the lines.
+pub const ROWS_END: usize = 239771;
 
 // ---- rows
 
 // A line feed, and before it a space and a number for each of `count` numbers of a table, three at most.
 fn put_numbers(text: &mut [u8], end: usize, table: &[u32], from: usize, count: usize) -> usize
-    requires { ⌜ (from + count ≤ length (now table)) × (from ≤ 16384) × (count ≤ 3) × (1 + 11 * count ≤ end) × (end ≤ length (now text)) ⌝ }
+    requires { ⌜ (from + count ≤ length (now table)) × (from ≤ eventWidth * eventRows) × (count ≤ 3) × (1 + 11 * count ≤ end) × (end ≤ length (now text)) ⌝ }
     ensures { λ r. ⌜ PutBefore (now (text .entry)) (now (text .exit)) end r (rowLine [] (part (now (table .entry)) from count)) × (end ≤ r + (1 + 11 * count)) ⌝ }
 {
     let mut at = print_lines::put_word(text, end, b"\n");
@@ -27,8 +31,8 @@ fn put_numbers(text: &mut [u8], end: usize, table: &[u32], from: usize, count: u
 
 // A line for each of the first `rows` rows of a table of names.
 fn put_names(text: &mut [u8], end: usize, names: &[u32], rows: usize) -> usize
-    requires { ⌜ (nameWidth * rows ≤ length (now names)) × (rows ≤ 1024) × (155 + 27 * rows ≤ end) × (end ≤ length (now text)) ⌝ }
-    ensures { λ r. ⌜ PutBefore (now (text .entry)) (now (text .exit)) end r (nameLines (nameRowsIn rows (now (names .entry)))) × (155 ≤ r) ⌝ }
+    requires { ⌜ (nameWidth * rows ≤ length (now names)) × (rows ≤ nameRows) × (answerEnd + nameLine * rows ≤ end) × (end ≤ length (now text)) ⌝ }
+    ensures { λ r. ⌜ PutBefore (now (text .entry)) (now (text .exit)) end r (nameLines (nameRowsIn rows (now (names .entry)))) × (answerEnd ≤ r) ⌝ }
 {
     let mut at = end;
     let mut k = rows;
@@ -42,8 +46,8 @@ fn put_names(text: &mut [u8], end: usize, names: &[u32], rows: usize) -> usize
 
 // A line for each of the first `rows` rows of a table of qnames.
 fn put_qnames(text: &mut [u8], end: usize, qnames: &[u32], rows: usize) -> usize
-    requires { ⌜ (qnameWidth * rows ≤ length (now qnames)) × (rows ≤ 1024) × (27803 + 39 * rows ≤ end) × (end ≤ length (now text)) ⌝ }
-    ensures { λ r. ⌜ PutBefore (now (text .entry)) (now (text .exit)) end r (qnameLines (qnameRowsIn rows (now (qnames .entry)))) × (27803 ≤ r) ⌝ }
+    requires { ⌜ (qnameWidth * rows ≤ length (now qnames)) × (rows ≤ qnameRows) × (namesEnd + qnameLine * rows ≤ end) × (end ≤ length (now text)) ⌝ }
+    ensures { λ r. ⌜ PutBefore (now (text .entry)) (now (text .exit)) end r (qnameLines (qnameRowsIn rows (now (qnames .entry)))) × (namesEnd ≤ r) ⌝ }
 {
     let mut at = end;
     let mut k = rows;
@@ -67,8 +71,8 @@ fn put_token(text: &mut [u8], end: usize, token: usize) -> usize
 
 // A line for each of the first `rows` rows of a table of events.
 fn put_events(text: &mut [u8], end: usize, events: &[u32], rows: usize) -> usize
-    requires { ⌜ (eventWidth * rows ≤ length (now events)) × (rows ≤ 4096) × (67739 + 42 * rows ≤ end) × (end ≤ length (now text)) ⌝ }
-    ensures { λ r. ⌜ PutBefore (now (text .entry)) (now (text .exit)) end r (eventLines (eventRowsIn rows (now (events .entry)))) × (67739 ≤ r) ⌝ }
+    requires { ⌜ (eventWidth * rows ≤ length (now events)) × (rows ≤ eventRows) × (qnamesEnd + eventLine * rows ≤ end) × (end ≤ length (now text)) ⌝ }
+    ensures { λ r. ⌜ PutBefore (now (text .entry)) (now (text .exit)) end r (eventLines (eventRowsIn rows (now (events .entry)))) × (qnamesEnd ≤ r) ⌝ }
 {
     let mut at = end;
     let mut k = rows;
@@ -90,12 +94,12 @@ pub fn put_rows(
     q: usize,
     e: usize,
 ) -> usize
-    requires { ⌜ (length (now text) ≡ 239771) × (n ≤ 1024) × (q ≤ 1024) × (e ≤ 4096)
+    requires { ⌜ (length (now text) ≡ rowsEnd) × (n ≤ nameRows) × (q ≤ qnameRows) × (e ≤ eventRows)
         × (nameWidth * n ≤ length (now names)) × (qnameWidth * q ≤ length (now qnames)) × (eventWidth * e ≤ length (now events)) ⌝ }
-    ensures { λ r. ⌜ PutBefore (now (text .entry)) (now (text .exit)) 239771 r
-        (rowLines (nameRowsIn n (now (names .entry))) (qnameRowsIn q (now (qnames .entry))) (eventRowsIn e (now (events .entry)))) × (155 ≤ r) ⌝ }
+    ensures { λ r. ⌜ PutBefore (now (text .entry)) (now (text .exit)) rowsEnd r
+        (rowLines (nameRowsIn n (now (names .entry))) (qnameRowsIn q (now (qnames .entry))) (eventRowsIn e (now (events .entry)))) × (answerEnd ≤ r) ⌝ }
 {
-    let before_events = put_events(text, 239771, events, e);
+    let before_events = put_events(text, ROWS_END, events, e);
     let before_qnames = put_qnames(text, before_events, qnames, q);
     put_names(text, before_qnames, names, n)
 }

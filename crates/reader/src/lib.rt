@@ -66,7 +66,7 @@ fn walk(
     // A first value whose bytes differ is stored by vector instructions, and one of equal bytes by a call of memset.
     let mut stack = [1u32; token::NAME_ROWS];
     let mut qstack = [1u32; token::QNAME_ROWS];
-    let mut frames = [0usize; 48];
+    let mut frames = [0usize; rows::FRAMES];
     let mut v = first_view(version, next);
     loop {
         let common = common::common_at(table, doc, v, room);

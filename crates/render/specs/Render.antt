@@ -11,11 +11,17 @@ use Rattle.meaning.specs.Codes.{codesOf}
 use Rattle.twins.specs.Parts.{partAt, partsOf, Cut}
 use Rattle.hash.specs.Hash.{hashOf}
 use Rattle.marks.specs.Names.{classIn}
+use Rattle.token.specs.Tokens.{nameRows}
+use Rattle.twins.specs.Search.{mostParts, partBounds}
+
+-- the tokens of values are below this, and no other token is
+abbrev pub valuesEnd : ℕ
+valuesEnd = 0xA0
 
 -- the tables after an accepted reading, and the classes of the names
 pub record Renderable (doc names qnames events classes : List ℕ) (rows qrows count : ℕ) : Type 0 where
   pub filled : Filled doc names qnames events rows qrows count
-  pub classes-long : length classes ≡ 1024
+  pub classes-long : length classes ≡ nameRows
   pub classes-are : Front (nameClasses doc (nameRowsIn rows names)) classes
 
 -- room for the numbers of any document of so many bytes and rows of events: five for each byte and two for each row. A decimal
@@ -26,9 +32,9 @@ roomFor bytes count = 5 * bytes + 2 * count
 -- so many records; the parts of the array are the codes of their meanings, with their hashes
 pub record Rendered (doc names qnames events : List ℕ) (rows qrows count : ℕ) (syms starts hashes : List ℕ) (n : ℕ) : Type 0 where
   pub number-is : n ≡ length (meanings (eventsIn doc names qnames events rows qrows count))
-  pub few : n ≤ 2048
-  pub starts-long : length starts ≡ 2049
-  pub hashes-long : length hashes ≡ 2049
+  pub few : n ≤ mostParts
+  pub starts-long : length starts ≡ partBounds
+  pub hashes-long : length hashes ≡ partBounds
   pub cut : Cut syms starts n
   pub parts-are : partsOf syms starts n ≡ map (codesOf (classIn doc names rows)) (meanings (eventsIn doc names qnames events rows qrows count))
   pub hashes-are : (k : ℕ) → k < n → getD hashes (k + 1) 0 ≡ hashOf (partAt syms starts k)

@@ -8,10 +8,14 @@ ghost use Rattle.base64.specs.Base64.{Alphabet};
 ghost use Rattle.symbols.specs.Store.{PutHashed};
 ghost use Rattle.render_elements.specs.Codes.{countedBy, valueBy, unlessOut, rowBy, depthBy, attributeBy, roomBy, RowFits};
 ghost use Rattle.render_elements.specs.Effects.{RowPut, RowDone};
-ghost use Rattle.render.specs.Render.{Renderable, Rendered, roomFor};
-ghost use Rattle.token.specs.Tokens.{ELEMENT-TOKEN, ENDELEMENT-TOKEN, eventWidth};
+ghost use Rattle.render.specs.Render.{Renderable, Rendered, roomFor, valuesEnd};
+ghost use Rattle.token.specs.Tokens.{ELEMENT-TOKEN, ENDELEMENT-TOKEN, eventWidth, eventRows};
+ghost use Rattle.twins.specs.Search.{partBounds};
 use render_elements::Progress;
 use symbols::Cursor;
+
+// The tokens of values are below this, and no other token is.
+const VALUES_END: usize = 0xA0;
 
 // Codes of tokens (004, section 2), as the table of events has them.
 const ELEMENT: usize = token::ELEMENT_TOKEN as usize;
@@ -43,7 +47,7 @@ fn put_chunk(doc: &[u8], syms: &mut [u32], p: Progress, place: usize, units: usi
 
 // XSD-QNAME or another value; nothing for a byte that is no token, nor within a skipped attribute.
 fn put_valued(
-    alphabet: &[u8; 64],
+    alphabet: &[u8; base64::LETTER_COUNT],
     doc: &[u8],
     marks: &[u32; token::QNAME_ROWS],
     syms: &mut [u32],
@@ -52,7 +56,7 @@ fn put_valued(
     a: usize,
     b: usize,
 ) -> Cursor
-    requires { ⌜ Alphabet (now alphabet) × RowFits (now doc) token a b × (token < 0xA0)
+    requires { ⌜ Alphabet (now alphabet) × RowFits (now doc) token a b × (token < valuesEnd)
         × (i .at + roomBy token b ≤ length (now syms)) ⌝ }
     ensures { λ r. ⌜ PutHashed (now (syms .entry)) i (countedBy (now (doc .entry)) (now (marks .entry)) token a b) (now (syms .exit)) r ⌝ }
 {
@@ -68,7 +72,7 @@ fn put_valued(
 
 // A value, within a record and outside of a skipped attribute.
 fn put_value(
-    alphabet: &[u8; 64],
+    alphabet: &[u8; base64::LETTER_COUNT],
     doc: &[u8],
     marks: &[u32; token::QNAME_ROWS],
     syms: &mut [u32],
@@ -77,7 +81,7 @@ fn put_value(
     a: usize,
     b: usize,
 ) -> Progress
-    requires { ⌜ Alphabet (now alphabet) × RowFits (now doc) token a b × (token < 0xA0)
+    requires { ⌜ Alphabet (now alphabet) × RowFits (now doc) token a b × (token < valuesEnd)
         × (p .at + roomBy token b ≤ length (now syms)) ⌝ }
     ensures { λ r. ⌜ RowPut (unlessOut (p .depth) (valueBy (now (doc .entry)) (now (marks .entry)) (p .attribute) token a b)) (p .attribute) (p .depth) (now (syms .entry)) p (now (syms .exit)) r ⌝ }
 {
@@ -104,7 +108,7 @@ fn put_value(
 
 // Any row but ELEMENT's and ENDELEMENT's.
 fn put_other(
-    alphabet: &[u8; 64],
+    alphabet: &[u8; base64::LETTER_COUNT],
     doc: &[u8],
     marks: &[u32; token::QNAME_ROWS],
     syms: &mut [u32],
@@ -118,7 +122,7 @@ fn put_other(
     ensures { λ r. ⌜ RowPut (rowBy (now (doc .entry)) (now (marks .entry)) (p .depth) (p .attribute) token a b) (attributeBy (now (marks .entry)) (p .attribute) token a)
         (depthBy (p .depth) token) (now (syms .entry)) p (now (syms .exit)) r ⌝ }
 {
-    if token < 0xA0 {
+    if token < VALUES_END {
         return put_value(alphabet, doc, marks, syms, p, token, a, b);
     }
     match token {
@@ -131,7 +135,7 @@ fn put_other(
 
 // Row k, of which the token and the first number were read.
 fn put_row(
-    alphabet: &[u8; 64],
+    alphabet: &[u8; base64::LETTER_COUNT],
     doc: &[u8],
     events: &[u32],
     marks: &[u32; token::QNAME_ROWS],
@@ -144,8 +148,8 @@ fn put_row(
     a: usize,
 ) -> Progress
     requires { ⌜ Alphabet (now alphabet) × RowFits (now doc) token a (getD (now events) (eventWidth * k + 3) 0)
-        × (p .at + roomBy token (getD (now events) (eventWidth * k + 3) 0) ≤ length (now syms)) × (k < 4096) × (eventWidth * k + eventWidth ≤ length (now events))
-        × (p .records < 2049) × (p .depth ≤ 4096) × (length (now starts) ≡ 2049) × (length (now hashes) ≡ 2049) ⌝ }
+        × (p .at + roomBy token (getD (now events) (eventWidth * k + 3) 0) ≤ length (now syms)) × (k < eventRows) × (eventWidth * k + eventWidth ≤ length (now events))
+        × (p .records < partBounds) × (p .depth ≤ eventRows) × (length (now starts) ≡ partBounds) × (length (now hashes) ≡ partBounds) ⌝ }
     ensures { λ r. ⌜ RowDone (now (doc .entry)) (now (marks .entry)) token a (getD (now (events .entry)) (eventWidth * k + 3) 0)
         (now (syms .entry)) (now (starts .entry)) (now (hashes .entry)) p (now (syms .exit)) (now (starts .exit)) (now (hashes .exit)) r ⌝ }
 {
@@ -175,7 +179,7 @@ pub fn render(
     hashes: &mut [u64; twins::BOUNDS],
 ) -> usize
     requires { ⌜ Renderable (now doc) (now names) (now qnames) (now events) (now classes) rows qrows count
-        × (roomFor (length (now doc)) count ≤ length (now syms)) × (length (now starts) ≡ 2049) × (length (now hashes) ≡ 2049) ⌝ }
+        × (roomFor (length (now doc)) count ≤ length (now syms)) × (length (now starts) ≡ partBounds) × (length (now hashes) ≡ partBounds) ⌝ }
     ensures { λ r. ⌜ Rendered (now (doc .entry)) (now (names .entry)) (now (qnames .entry)) (now (events .entry)) rows qrows count
         (now (syms .exit)) (now (starts .exit)) (now (hashes .exit)) r ⌝ }
 {

@@ -7,7 +7,7 @@ use mathlib.Core.List.{List, [], _∷_, _++_}
 use lib.Dec.{eqb, ltb}
 use lib.ListN.{length}
 use Rattle.sequences.specs.Lists.{part, unitsOf}
-use Rattle.token.specs.Tokens.{shapeOf, XSD-QNAME, ELEMENT-TOKEN, ATTRIBUTE-TOKEN, ENDATTRIBUTES-TOKEN, ENDELEMENT-TOKEN, CDATA-TOKEN}
+use Rattle.token.specs.Tokens.{shapeOf, XSD-QNAME, ELEMENT-TOKEN, ATTRIBUTE-TOKEN, ENDATTRIBUTES-TOKEN, ENDELEMENT-TOKEN, CDATA-TOKEN, qnameRows}
 use Rattle.rules.specs.Rules.{lawful}
 use Rattle.plan.specs.Text.{textOf}
 use Rattle.meaning.specs.Meaning.{Attribute, none-open, counted, skipped}
@@ -71,8 +71,8 @@ roomBy token b = 2 + cond (eqb token CDATA-TOKEN) b (cond (isValue token) (4 + 5
 
 -- what a row asks of the document and the table of marks
 pub record RowFits (doc : List ℕ) (token a b : ℕ) : Type 0 where
-  pub element : token ≡ ELEMENT-TOKEN → (1 ≤ a) × (a ≤ 1024)
-  pub attribute : token ≡ ATTRIBUTE-TOKEN → (1 ≤ a) × (a ≤ 1024)
-  pub qname : token ≡ XSD-QNAME → (1 ≤ a) × (a ≤ 1024)
+  pub element : token ≡ ELEMENT-TOKEN → (1 ≤ a) × (a ≤ qnameRows)
+  pub attribute : token ≡ ATTRIBUTE-TOKEN → (1 ≤ a) × (a ≤ qnameRows)
+  pub qname : token ≡ XSD-QNAME → (1 ≤ a) × (a ≤ qnameRows)
   pub chunk : token ≡ CDATA-TOKEN → a + 2 * b ≤ length doc
   pub value : isValue token ≡ true → (token ≡ XSD-QNAME → ⊥) → (a + b ≤ length doc) × (lawful (shapeOf token) (part doc a b) ≡ true) × (b ≤ 65536)

@@ -10,6 +10,8 @@ ghost use Rattle.symbols.specs.Store.{PutHashed};
 ghost use Rattle.marks.specs.Marks.{openingIn, declaredIn, declaring};
 ghost use Rattle.render_elements.specs.Codes.{closeBy, unlessOut};
 ghost use Rattle.render_elements.specs.Effects.{cursorOf, movedTo, attributed, Begun, RowPut};
+ghost use Rattle.token.specs.Tokens.{qnameRows, eventRows};
+ghost use Rattle.twins.specs.Search.{partBounds};
 use symbols::Cursor;
 
 // ---- rows
@@ -64,7 +66,7 @@ pub fn begin(
     hashes: &mut [u64; twins::BOUNDS],
     p: Progress,
 ) -> Progress
-    requires { ⌜ (p .records < 2049) × (length (now starts) ≡ 2049) × (length (now hashes) ≡ 2049) ⌝ }
+    requires { ⌜ (p .records < partBounds) × (length (now starts) ≡ partBounds) × (length (now hashes) ≡ partBounds) ⌝ }
     ensures { λ r. ⌜ Begun (now (starts .entry)) (now (hashes .entry)) p (now (starts .exit)) (now (hashes .exit)) r ⌝ }
 {
     if p.depth != 0 {
@@ -84,7 +86,7 @@ pub fn begin(
 
 // ELEMENT.
 pub fn open(marks: &[u32; token::QNAME_ROWS], syms: &mut [u32], p: Progress, row: usize) -> Progress
-    requires { ⌜ (1 ≤ row) × (row ≤ 1024) × (p .at < length (now syms)) × (p .depth ≤ 4096) ⌝ }
+    requires { ⌜ (1 ≤ row) × (row ≤ qnameRows) × (p .at < length (now syms)) × (p .depth ≤ eventRows) ⌝ }
     ensures { λ r. ⌜ RowPut (openingIn (now (marks .entry)) row ∷ []) (p .attribute) (p .depth + 1) (now (syms .entry)) p (now (syms .exit)) r ⌝ }
 {
     let mark = marks[row - 1] % marks::DECLARING;
@@ -141,7 +143,7 @@ pub fn put_attribute(
     p: Progress,
     row: usize,
 ) -> Progress
-    requires { ⌜ (1 ≤ row) × (row ≤ 1024) × (p .at + 1 < length (now syms)) ⌝ }
+    requires { ⌜ (1 ≤ row) × (row ≤ qnameRows) × (p .at + 1 < length (now syms)) ⌝ }
     ensures { λ r. ⌜ RowPut (unlessOut (p .depth) (closeBy (p .attribute) ++ cond (declaredIn (now (marks .entry)) row) [] ((openingIn (now (marks .entry)) row + 1) ∷ [])))
         (cond (declaredIn (now (marks .entry)) row) 2 1) (p .depth) (now (syms .entry)) p (now (syms .exit)) r ⌝ }
 {

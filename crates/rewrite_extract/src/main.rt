@@ -3,12 +3,17 @@
 use libc::STDERR_FILENO;
 use rewriter_contract::Answer;
 
-// The longest line has 43 bytes.
+// The bytes that are read: one more than the limit.
+const INPUT: usize = token::LONGEST + 1;
+
+// The bytes of the longest line.
+const LINE: usize = 43;
+
 fn write_refusal(a: Answer) {
-    let mut text = [0u8; 43];
+    let mut text = [0u8; LINE];
     let from = print_lines::put_line(
         &mut text,
-        43,
+        LINE,
         b"refused ",
         a.number as usize,
         b" at ",
@@ -25,15 +30,15 @@ fn write_front(out: &[u8], size: usize) {
 }
 
 fn main() {
-    let mut doc = [0u8; 65537];
+    let mut doc = [0u8; INPUT];
     let size = io::read_full(libc::STDIN_FILENO, &mut doc);
-    if !console::input_whole(size, 65537) {
+    if !console::input_whole(size, INPUT) {
         return;
     }
     let mut names = [0u32; token::NAME_TABLE];
     let mut qnames = [0u32; token::QNAME_TABLE];
     let mut events = [0u32; token::EVENT_TABLE];
-    let mut out = [0u8; 65536];
+    let mut out = [0u8; token::LONGEST];
     let answer = rewriter::rewrite(&doc[..size], &mut names, &mut qnames, &mut events, &mut out);
     if answer.number != 0 {
         write_refusal(answer);

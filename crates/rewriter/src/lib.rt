@@ -4,12 +4,12 @@ ghost use mathlib.Core.Path.{_≡_};
 ghost use Prim.Native.Nat.{_+_, _*_, _≤_, _<_};
 ghost use lib.ListN.{length, getD};
 ghost use Rattle.token.specs.Entries.{Listed};
-ghost use Rattle.token.specs.Tokens.{eventWidth};
+ghost use Rattle.token.specs.Tokens.{eventWidth, eventRows, nestedDocuments};
 ghost use Rattle.machine.specs.Machine.{reading, roomIn};
 ghost use Rattle.machine.specs.Tables.{eventsIn};
 ghost use Rattle.form.specs.Canonical.{canonical};
-ghost use Rattle.form_output.specs.Output.{Fits, Put};
-ghost use Rattle.form_slots.specs.Slots.{Low};
+ghost use Rattle.form_output.specs.Output.{Fits, Put, farItems};
+ghost use Rattle.form_slots.specs.Slots.{Low, lowItems};
 ghost use Rattle.form_items.specs.Walk.{tables, baseAt, bytesFor, itemAt, Either, Turned, Ready, ItemFits, Prepared};
 ghost use Rattle.rewriter_contract.specs.Contract.{answer, FormWritten, Rewrites};
 use form_items::Spot;
@@ -32,10 +32,10 @@ fn turn(
     i: usize,
     w: Spot,
 ) -> Spot
-    requires { ⌜ Listed (now table) × (i < 4096) × (eventWidth * i + eventWidth ≤ length (now events)) × (getD (now events) (eventWidth * i) 0 < 256)
+    requires { ⌜ Listed (now table) × (i < eventRows) × (eventWidth * i + eventWidth ≤ length (now events)) × (getD (now events) (eventWidth * i) 0 < 256)
         × Ready (tables (now doc) (now names) (now qnames) (now classes) (now qclasses)) rows qrows
         × ItemFits (tables (now doc) (now names) (now qnames) (now classes) (now qclasses)) rows qrows (w .depth) (itemAt (now events) i)
-        × Low 15000 (now slots) × Low 15000 (now qslots) × (w .depth ≤ 8) × (w .at ≤ 800000000000)
+        × Low lowItems (now slots) × Low lowItems (now qslots) × (w .depth ≤ nestedDocuments) × (w .at ≤ farItems)
         × Fits (length (now out)) (w .at) (length (bytesFor (tables (now doc) (now names) (now qnames) (now classes) (now qclasses)) (now slots) (now qslots) (baseAt (w .depth)) (itemAt (now events) i))) ⌝ }
     ensures { λ r. ⌜ Turned (tables (now (doc .entry)) (now (names .entry)) (now (qnames .entry)) (now (classes .entry)) (now (qclasses .entry)))
         (now (slots .entry)) (now (qslots .entry)) (now (out .entry)) (now (slots .exit)) (now (qslots .exit)) (now (out .exit)) w (itemAt (now (events .entry)) i) r ⌝ }

@@ -31,15 +31,24 @@ fn read_front(
 
 // Writes the answer, and as many rows as it tells of and the tables hold.
 fn write_report(names: &[u32], qnames: &[u32], events: &[u32], a: Answer) {
-    let mut text = [0u8; 239771];
+    let mut text = [0u8; print_reading::PRINTED];
     let end = print_rows::put_rows(
         &mut text,
         names,
         qnames,
         events,
-        slices::least(a.names, slices::least(names.len() / 2, 1024)),
-        slices::least(a.qnames, slices::least(qnames.len() / 3, 1024)),
-        slices::least(a.events, slices::least(events.len() / 4, 4096)),
+        slices::least(
+            a.names,
+            slices::least(names.len() / token::NAME_WIDTH, token::NAME_ROWS),
+        ),
+        slices::least(
+            a.qnames,
+            slices::least(qnames.len() / token::QNAME_WIDTH, token::QNAME_ROWS),
+        ),
+        slices::least(
+            a.events,
+            slices::least(events.len() / token::EVENT_WIDTH, token::EVENT_ROWS),
+        ),
     );
     let from = print_reading::put_answer(&mut text, end, a);
     io::write_all(STDOUT_FILENO, &text[from..]);
@@ -60,9 +69,18 @@ fn read_into(doc: &[u8], n: usize, q: usize, e: usize) {
         slices::least(e, 512),
     );
     write_report(&names, &qnames, &events, a);
-    report_change(&names, 2 * slices::least(a.names, 1024));
-    report_change(&qnames, 3 * slices::least(a.qnames, 1024));
-    report_change(&events, 4 * slices::least(a.events, 4096));
+    report_change(
+        &names,
+        token::NAME_WIDTH * slices::least(a.names, token::NAME_ROWS),
+    );
+    report_change(
+        &qnames,
+        token::QNAME_WIDTH * slices::least(a.qnames, token::QNAME_ROWS),
+    );
+    report_change(
+        &events,
+        token::EVENT_WIDTH * slices::least(a.events, token::EVENT_ROWS),
+    );
 }
 
 fn case(line: &[u8]) {

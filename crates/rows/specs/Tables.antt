@@ -11,7 +11,14 @@ use Rattle.scan.specs.declared.Room.{Room}
 use Rattle.scan.specs.declared.Step.{Step}
 use Rattle.scan.specs.declared.Step.the-variants as step
 use Rattle.machine.specs.declared.Answer.{Answer}
-use Rattle.token.specs.Tokens.{ELEMENT-TOKEN, PI-TOKEN, ENDELEMENT-TOKEN, NEST-TOKEN, ENDNEST-TOKEN, nameWidth, qnameWidth, eventWidth}
+use Rattle.token.specs.Tokens.{ELEMENT-TOKEN, PI-TOKEN, ENDELEMENT-TOKEN, NEST-TOKEN, ENDNEST-TOKEN, nameWidth, qnameWidth, eventWidth, longest, nameRows, qnameRows, eventRows, openElements, nestedDocuments}
+
+-- the numbers kept of a document around the innermost, and of all of them
+abbrev pub frameWidth : ℕ
+frameWidth = 6
+
+abbrev pub frameNumbers : ℕ
+frameNumbers = 48
 
 -- the three lent tables, the stacks of name rows and qname rows of all open documents, and what returns after a nested one
 pub record Tables : Type 0 where
@@ -38,8 +45,8 @@ put4 l row a b c d = set (set (set (set l (eventWidth * row) a) (eventWidth * ro
 -- a document's frame: where its names and qnames stand in the stacks, how many there are, its open elements, its version
 abbrev pub put6 : List ℕ → ℕ → View → List ℕ
 put6 l row v =
-    set (set (set (set (set (set l (6 * row) (v .base)) (6 * row + 1) (v .known)) (6 * row + 2) (v .qbase)) (6 * row + 3) (v .qknown))
-    (6 * row + 4) (v .elements)) (6 * row + 5) (v .version)
+    set (set (set (set (set (set l (frameWidth * row) (v .base)) (frameWidth * row + 1) (v .known)) (frameWidth * row + 2) (v .qbase)) (frameWidth * row + 3) (v .qknown))
+    (frameWidth * row + 4) (v .elements)) (frameWidth * row + 5) (v .version)
 
 -- the row of a number, in a stack on which its document begins at `base`
 abbrev pub rowAt : List ℕ → ℕ → ℕ → ℕ
@@ -194,7 +201,7 @@ inside v version next =
 
 abbrev pub outside : List ℕ → View → ℕ → View
 outside frames v next =
-    let f = 6 * (v .depth - 1) in
+    let f = frameWidth * (v .depth - 1) in
     record {
       at = next;
       mode = Content;
@@ -268,33 +275,33 @@ pub record Turned (t t′ : Tables) (v : View) (s : Step) (r : View) : Type 0 wh
 
 -- what holds of the view and the tables before each step: what is read and written lies inside them
 pub record Held (size : ℕ) (room : Room) (t : Tables) (v : View) : Type 0 where
-  pub short : size ≤ 65536
+  pub short : size ≤ longest
   pub at-in : v .at ≤ size
-  pub names-room : 2 * room .names ≤ length (t .names)
+  pub names-room : nameWidth * room .names ≤ length (t .names)
   pub qnames-room : qnameWidth * room .qnames ≤ length (t .qnames)
   pub events-room : eventWidth * room .events ≤ length (t .events)
-  pub few-names : room .names ≤ 1024
-  pub few-qnames : room .qnames ≤ 1024
-  pub few-events : room .events ≤ 4096
+  pub few-names : room .names ≤ nameRows
+  pub few-qnames : room .qnames ≤ qnameRows
+  pub few-events : room .events ≤ eventRows
   pub names-in : v .names ≤ room .names
   pub qnames-in : v .qnames ≤ room .qnames
   pub events-in : v .events ≤ room .events
   pub known-in : v .base + v .known ≤ v .names
   pub qknown-in : v .qbase + v .qknown ≤ v .qnames
-  pub shallow : v .depth ≤ 8
+  pub shallow : v .depth ≤ nestedDocuments
   pub opened-in : v .elements ≤ v .opened
-  pub few-open : v .opened ≤ 64
-  pub stack-long : length (t .stack) ≡ 1024
-  pub qstack-long : length (t .qstack) ≡ 1024
-  pub frames-long : length (t .frames) ≡ 48
+  pub few-open : v .opened ≤ openElements
+  pub stack-long : length (t .stack) ≡ nameRows
+  pub qstack-long : length (t .qstack) ≡ qnameRows
+  pub frames-long : length (t .frames) ≡ frameNumbers
 
 -- what holds before the first step, of the tables that are lent
 pub record ReadingBegins (size : ℕ) (room : Room) (names qnames events : List ℕ) (next : ℕ) : Type 0 where
-  pub short : size ≤ 65536
+  pub short : size ≤ longest
   pub at-in : next ≤ size
-  pub names-room : 2 * room .names ≤ length names
+  pub names-room : nameWidth * room .names ≤ length names
   pub qnames-room : qnameWidth * room .qnames ≤ length qnames
   pub events-room : eventWidth * room .events ≤ length events
-  pub few-names : room .names ≤ 1024
-  pub few-qnames : room .qnames ≤ 1024
-  pub few-events : room .events ≤ 4096
+  pub few-names : room .names ≤ nameRows
+  pub few-qnames : room .qnames ≤ qnameRows
+  pub few-events : room .events ≤ eventRows

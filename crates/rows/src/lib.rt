@@ -3,18 +3,23 @@
 ghost use mathlib.Core.Path.{_≡_};
 ghost use Prim.Native.Nat.{_+_, _*_, _≤_, _<_};
 ghost use lib.ListN.{length, set};
-ghost use Rattle.rows.specs.Tables.{put2, put3, put4, put6, rowAt, moved, evented, named, qnamed, flushed, entered, elementClosed, inside, outside};
+ghost use Rattle.rows.specs.Tables.{put2, put3, put4, put6, rowAt, moved, evented, named, qnamed, flushed, entered, elementClosed, inside, outside, frameNumbers};
 ghost use Rattle.modes.specs.Modes.{afterMetadata};
-ghost use Rattle.token.specs.Tokens.{nameWidth, qnameWidth, eventWidth};
+ghost use Rattle.token.specs.Tokens.{nameWidth, qnameWidth, eventWidth, longest, nameRows, qnameRows, eventRows, openElements, nestedDocuments};
 use modes::Mode;
 use modes::View;
 use token::NameNumber;
 use token::QnameNumber;
 
+// The numbers kept of a document around the innermost, and of all of them.
+const FRAME_WIDTH: usize = 6;
+
+pub const FRAMES: usize = FRAME_WIDTH * token::NESTED_DOCUMENTS;
+
 // ---- rows by number
 
 fn row_at(stack: &[u32; token::NAME_ROWS], base: usize, number: usize) -> u32
-    requires { ⌜ (base + number ≤ 1024) × (length (now stack) ≡ 1024) ⌝ }
+    requires { ⌜ (base + number ≤ nameRows) × (length (now stack) ≡ nameRows) ⌝ }
     ensures { λ r. ⌜ r ≡ rowAt (now (stack .entry)) base number ⌝ }
 {
     if number == 0 {
@@ -25,14 +30,14 @@ fn row_at(stack: &[u32; token::NAME_ROWS], base: usize, number: usize) -> u32
 
 // Only a name's number finds a row of names, and only a qname's number a row of qnames.
 pub fn name_row(stack: &[u32; token::NAME_ROWS], v: View, number: NameNumber) -> u32
-    requires { ⌜ (v .base + number .0 ≤ 1024) × (length (now stack) ≡ 1024) ⌝ }
+    requires { ⌜ (v .base + number .0 ≤ nameRows) × (length (now stack) ≡ nameRows) ⌝ }
     ensures { λ r. ⌜ r ≡ rowAt (now (stack .entry)) (v .base) (number .0) ⌝ }
 {
     row_at(stack, v.base, number.0)
 }
 
 pub fn qname_row(qstack: &[u32; token::QNAME_ROWS], v: View, number: QnameNumber) -> u32
-    requires { ⌜ (v .qbase + number .0 ≤ 1024) × (length (now qstack) ≡ 1024) ⌝ }
+    requires { ⌜ (v .qbase + number .0 ≤ qnameRows) × (length (now qstack) ≡ qnameRows) ⌝ }
     ensures { λ r. ⌜ r ≡ rowAt (now (qstack .entry)) (v .qbase) (number .0) ⌝ }
 {
     row_at(qstack, v.qbase, number.0)
@@ -41,7 +46,7 @@ pub fn qname_row(qstack: &[u32; token::QNAME_ROWS], v: View, number: QnameNumber
 // ---- what each step writes
 
 pub fn put_name(names: &mut [u32], row: usize, place: usize, units: usize)
-    requires { ⌜ (row < 1024) × (nameWidth * row + nameWidth ≤ length (now names)) × (place ≤ 65536) × (units ≤ 65536) ⌝ }
+    requires { ⌜ (row < nameRows) × (nameWidth * row + nameWidth ≤ length (now names)) × (place ≤ longest) × (units ≤ longest) ⌝ }
     ensures { λ _. ⌜ now (names .exit) ≡ put2 (now (names .entry)) row place units ⌝ }
 {
     names[token::NAME_WIDTH * row] = place as u32;
@@ -49,7 +54,7 @@ pub fn put_name(names: &mut [u32], row: usize, place: usize, units: usize)
 }
 
 pub fn put_qname(qnames: &mut [u32], row: usize, uri: u32, prefix: u32, local: u32)
-    requires { ⌜ (row < 1024) × (qnameWidth * row + qnameWidth ≤ length (now qnames)) ⌝ }
+    requires { ⌜ (row < nameRows) × (qnameWidth * row + qnameWidth ≤ length (now qnames)) ⌝ }
     ensures { λ _. ⌜ now (qnames .exit) ≡ put3 (now (qnames .entry)) row uri prefix local ⌝ }
 {
     qnames[token::QNAME_WIDTH * row] = uri;
@@ -59,7 +64,7 @@ pub fn put_qname(qnames: &mut [u32], row: usize, uri: u32, prefix: u32, local: u
 
 // The event's place is the view's.
 pub fn put_event(events: &mut [u32], v: View, token: u8, a: u32, b: u32)
-    requires { ⌜ (v .events < 4096) × (eventWidth * v .events + eventWidth ≤ length (now events)) × (v .at ≤ 65536) ⌝ }
+    requires { ⌜ (v .events < eventRows) × (eventWidth * v .events + eventWidth ≤ length (now events)) × (v .at ≤ longest) ⌝ }
     ensures { λ _. ⌜ now (events .exit) ≡ put4 (now (events .entry)) (v .events) token (v .at) a b ⌝ }
 {
     let row = v.events;
@@ -71,23 +76,23 @@ pub fn put_event(events: &mut [u32], v: View, token: u8, a: u32, b: u32)
 
 // The newest row is the next of its document's names or qnames.
 pub fn push(stack: &mut [u32; token::NAME_ROWS], top: usize, row: usize)
-    requires { ⌜ (top < 1024) × (row ≤ 1024) × (length (now stack) ≡ 1024) ⌝ }
+    requires { ⌜ (top < nameRows) × (row ≤ nameRows) × (length (now stack) ≡ nameRows) ⌝ }
     ensures { λ _. ⌜ now (stack .exit) ≡ set (now (stack .entry)) top row ⌝ }
 {
     stack[top] = row as u32;
 }
 
-pub fn put_frame(frames: &mut [usize; 48], v: View)
-    requires { ⌜ (v .depth < 8) × (length (now frames) ≡ 48) ⌝ }
+pub fn put_frame(frames: &mut [usize; FRAMES], v: View)
+    requires { ⌜ (v .depth < nestedDocuments) × (length (now frames) ≡ frameNumbers) ⌝ }
     ensures { λ _. ⌜ now (frames .exit) ≡ put6 (now (frames .entry)) (v .depth) v ⌝ }
 {
     let f = v.depth;
-    frames[6 * f] = v.base;
-    frames[6 * f + 1] = v.known;
-    frames[6 * f + 2] = v.qbase;
-    frames[6 * f + 3] = v.qknown;
-    frames[6 * f + 4] = v.elements;
-    frames[6 * f + 5] = v.version;
+    frames[FRAME_WIDTH * f] = v.base;
+    frames[FRAME_WIDTH * f + 1] = v.known;
+    frames[FRAME_WIDTH * f + 2] = v.qbase;
+    frames[FRAME_WIDTH * f + 3] = v.qknown;
+    frames[FRAME_WIDTH * f + 4] = v.elements;
+    frames[FRAME_WIDTH * f + 5] = v.version;
 }
 
 fn move_on(v: View, mode: Mode, next: usize) -> View
@@ -111,7 +116,7 @@ fn move_on(v: View, mode: Mode, next: usize) -> View
 }
 
 pub fn past_event(v: View, mode: Mode, next: usize) -> View
-    requires { ⌜ v .events < 4096 ⌝ }
+    requires { ⌜ v .events < eventRows ⌝ }
     ensures { λ r. ⌜ r ≡ evented v mode next ⌝ }
 {
     let mut w = move_on(v, mode, next);
@@ -120,7 +125,7 @@ pub fn past_event(v: View, mode: Mode, next: usize) -> View
 }
 
 pub fn past_name(v: View, next: usize) -> View
-    requires { ⌜ (v .names < 1024) × (v .known ≤ 1024) ⌝ }
+    requires { ⌜ (v .names < nameRows) × (v .known ≤ nameRows) ⌝ }
     ensures { λ r. ⌜ r ≡ named v next ⌝ }
 {
     let mode = v.mode;
@@ -131,7 +136,7 @@ pub fn past_name(v: View, next: usize) -> View
 }
 
 pub fn past_qname(v: View, next: usize) -> View
-    requires { ⌜ (v .qnames < 1024) × (v .qknown ≤ 1024) ⌝ }
+    requires { ⌜ (v .qnames < qnameRows) × (v .qknown ≤ qnameRows) ⌝ }
     ensures { λ r. ⌜ r ≡ qnamed v next ⌝ }
 {
     let mode = v.mode;
@@ -152,7 +157,7 @@ pub fn past_flush(v: View, next: usize) -> View
 }
 
 pub fn past_open(v: View, next: usize) -> View
-    requires { ⌜ (v .events < 4096) × (v .elements ≤ 64) × (v .opened ≤ 64) ⌝ }
+    requires { ⌜ (v .events < eventRows) × (v .elements ≤ openElements) × (v .opened ≤ openElements) ⌝ }
     ensures { λ r. ⌜ r ≡ entered v next ⌝ }
 {
     let mut w = past_event(v, Mode::Tag, next);
@@ -162,7 +167,7 @@ pub fn past_open(v: View, next: usize) -> View
 }
 
 pub fn past_close(v: View, next: usize) -> View
-    requires { ⌜ (v .events < 4096) × (0 < v .elements) × (v .elements ≤ v .opened) ⌝ }
+    requires { ⌜ (v .events < eventRows) × (0 < v .elements) × (v .elements ≤ v .opened) ⌝ }
     ensures { λ r. ⌜ r ≡ elementClosed v next ⌝ }
 {
     let mut w = past_event(v, Mode::Content, next);
@@ -173,7 +178,7 @@ pub fn past_close(v: View, next: usize) -> View
 
 // The nested document has no names yet: its own begin where the stacks end.
 pub fn past_nest(v: View, version: usize, next: usize) -> View
-    requires { ⌜ (v .events < 4096) × (v .depth < 8) × (v .base + v .known ≤ 1024) × (v .qbase + v .qknown ≤ 1024) ⌝ }
+    requires { ⌜ (v .events < eventRows) × (v .depth < nestedDocuments) × (v .base + v .known ≤ nameRows) × (v .qbase + v .qknown ≤ qnameRows) ⌝ }
     ensures { λ r. ⌜ r ≡ inside v version next ⌝ }
 {
     let mut w = past_event(v, Mode::First, next);
@@ -188,12 +193,12 @@ pub fn past_nest(v: View, version: usize, next: usize) -> View
 }
 
 // Its parent's names, qnames, open elements and version return.
-pub fn past_leave(frames: &[usize; 48], v: View, next: usize) -> View
-    requires { ⌜ (v .events < 4096) × (0 < v .depth) × (v .depth ≤ 8) × (length (now frames) ≡ 48) ⌝ }
+pub fn past_leave(frames: &[usize; FRAMES], v: View, next: usize) -> View
+    requires { ⌜ (v .events < eventRows) × (0 < v .depth) × (v .depth ≤ nestedDocuments) × (length (now frames) ≡ frameNumbers) ⌝ }
     ensures { λ r. ⌜ r ≡ outside (now (frames .entry)) v next ⌝ }
 {
     let mut w = past_event(v, Mode::Content, next);
-    let f = 6 * (v.depth - 1);
+    let f = FRAME_WIDTH * (v.depth - 1);
     w.depth = v.depth - 1;
     w.base = frames[f];
     w.known = frames[f + 1];

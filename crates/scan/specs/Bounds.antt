@@ -5,6 +5,7 @@ use Rattle.modes.specs.declared.View.{View}
 use Rattle.scan.specs.declared.Room.{Room}
 use Rattle.scan.specs.declared.Step.{Step}
 use Rattle.scan.specs.declared.Step.the-variants as step
+use Rattle.token.specs.Tokens.{openElements}
 
 abbrev pub Fine : ℕ → View → Room → Step → Type 0
 Fine size v room (step.Stop number place) = Unit
@@ -18,7 +19,7 @@ Fine size v room (step.Event token a b mode next) =
 Fine size v room (step.Refer token number mode next) =
     (v .at < next) × (next ≤ size) × (1 ≤ number .0) × (number .0 ≤ v .qknown) × (v .events < room .events)
 Fine size v room (step.Open number next) =
-    (v .at < next) × (next ≤ size) × (1 ≤ number .0) × (number .0 ≤ v .qknown) × (v .opened < 64) × (v .events < room .events)
+    (v .at < next) × (next ≤ size) × (1 ≤ number .0) × (number .0 ≤ v .qknown) × (v .opened < openElements) × (v .events < room .events)
 Fine size v room (step.Pi target start next) =
     (v .at < next) × (next ≤ size) × (target .0 ≤ v .known) × (start ≤ size) × (v .events < room .events)
 Fine size v room (step.Close next) = (v .at < next) × (next ≤ size) × (0 < v .elements) × (v .events < room .events)

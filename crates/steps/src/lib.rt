@@ -4,8 +4,8 @@ ghost use Prim.Native.Nat.{_+_, _*_, _≤_, _<_};
 ghost use lib.ListN.{length, getD, set};
 ghost use Rattle.scan.specs.Bounds.{Fine};
 ghost use Rattle.modes.specs.Modes.{afterMisc};
-ghost use Rattle.rows.specs.Tables.{tables, put2, put3, put4, put6, rowAt, evented, named, qnamed, entered, elementClosed, inside, outside, Turned, Held};
-ghost use Rattle.token.specs.Tokens.{ELEMENT-TOKEN, PI-TOKEN, ENDELEMENT-TOKEN, NEST-TOKEN, ENDNEST-TOKEN, nameWidth, qnameWidth, eventWidth};
+ghost use Rattle.rows.specs.Tables.{tables, put2, put3, put4, put6, rowAt, evented, named, qnamed, entered, elementClosed, inside, outside, Turned, Held, frameNumbers};
+ghost use Rattle.token.specs.Tokens.{ELEMENT-TOKEN, PI-TOKEN, ENDELEMENT-TOKEN, NEST-TOKEN, ENDNEST-TOKEN, nameWidth, qnameWidth, eventWidth, longest, nameRows, qnameRows, eventRows, openElements, nestedDocuments};
 use modes::Mode;
 use modes::View;
 use scan::Room;
@@ -21,8 +21,8 @@ fn define_name(
     units: usize,
     next: usize,
 ) -> View
-    requires { ⌜ (v .names < 1024) × (nameWidth * v .names + nameWidth ≤ length (now names)) × (place ≤ 65536) × (units ≤ 65536)
-        × (v .base + v .known ≤ v .names) × (length (now stack) ≡ 1024) ⌝ }
+    requires { ⌜ (v .names < nameRows) × (nameWidth * v .names + nameWidth ≤ length (now names)) × (place ≤ longest) × (units ≤ longest)
+        × (v .base + v .known ≤ v .names) × (length (now stack) ≡ nameRows) ⌝ }
     ensures { λ r. ⌜ (now (names .exit) ≡ put2 (now (names .entry)) (v .names) place units)
         × (now (stack .exit) ≡ set (now (stack .entry)) (v .base + v .known) (v .names + 1)) × (r ≡ named v next) ⌝ }
 {
@@ -41,8 +41,8 @@ fn define_qname(
     local: NameNumber,
     next: usize,
 ) -> View
-    requires { ⌜ (v .qnames < 1024) × (qnameWidth * v .qnames + qnameWidth ≤ length (now qnames)) × (v .base + uri .0 ≤ 1024) × (v .base + prefix .0 ≤ 1024)
-        × (v .base + local .0 ≤ 1024) × (v .qbase + v .qknown ≤ v .qnames) × (length (now stack) ≡ 1024) × (length (now qstack) ≡ 1024) ⌝ }
+    requires { ⌜ (v .qnames < qnameRows) × (qnameWidth * v .qnames + qnameWidth ≤ length (now qnames)) × (v .base + uri .0 ≤ nameRows) × (v .base + prefix .0 ≤ nameRows)
+        × (v .base + local .0 ≤ nameRows) × (v .qbase + v .qknown ≤ v .qnames) × (length (now stack) ≡ nameRows) × (length (now qstack) ≡ qnameRows) ⌝ }
     ensures { λ r. ⌜ (now (qnames .exit) ≡ put3 (now (qnames .entry)) (v .qnames) (rowAt (now (stack .entry)) (v .base) (uri .0))
         (rowAt (now (stack .entry)) (v .base) (prefix .0)) (rowAt (now (stack .entry)) (v .base) (local .0)))
         × (now (qstack .exit) ≡ set (now (qstack .entry)) (v .qbase + v .qknown) (v .qnames + 1)) × (r ≡ qnamed v next) ⌝ }
@@ -64,7 +64,7 @@ fn add_event(
     mode: Mode,
     next: usize,
 ) -> View
-    requires { ⌜ (v .events < 4096) × (eventWidth * v .events + eventWidth ≤ length (now events)) × (v .at ≤ 65536) × (a ≤ 65538) × (b ≤ 65536) ⌝ }
+    requires { ⌜ (v .events < eventRows) × (eventWidth * v .events + eventWidth ≤ length (now events)) × (v .at ≤ longest) × (a ≤ longest + 2) × (b ≤ longest) ⌝ }
     ensures { λ r. ⌜ (now (events .exit) ≡ put4 (now (events .entry)) (v .events) token (v .at) a b) × (r ≡ evented v mode next) ⌝ }
 {
     rows::put_event(events, v, token, a as u32, b as u32);
@@ -73,7 +73,7 @@ fn add_event(
 
 // A value of so many bytes, which stand behind its token.
 pub fn add_value(events: &mut [u32], doc: &[u8], v: View, size: usize) -> View
-    requires { ⌜ (v .events < 4096) × (eventWidth * v .events + eventWidth ≤ length (now events)) × (v .at + 1 + size ≤ length (now doc)) × (length (now doc) ≤ 65536) ⌝ }
+    requires { ⌜ (v .events < eventRows) × (eventWidth * v .events + eventWidth ≤ length (now events)) × (v .at + 1 + size ≤ length (now doc)) × (length (now doc) ≤ longest) ⌝ }
     ensures { λ r. ⌜ (now (events .exit) ≡ put4 (now (events .entry)) (v .events) (getD (now (doc .entry)) (v .at) 0) (v .at) (v .at + 1) size)
         × (r ≡ evented v Mode.Content (v .at + 1 + size)) ⌝ }
 {
@@ -98,8 +98,8 @@ fn add_reference(
     mode: Mode,
     next: usize,
 ) -> View
-    requires { ⌜ (v .events < 4096) × (eventWidth * v .events + eventWidth ≤ length (now events)) × (v .at ≤ 65536) × (v .qbase + number .0 ≤ 1024)
-        × (length (now qstack) ≡ 1024) ⌝ }
+    requires { ⌜ (v .events < eventRows) × (eventWidth * v .events + eventWidth ≤ length (now events)) × (v .at ≤ longest) × (v .qbase + number .0 ≤ qnameRows)
+        × (length (now qstack) ≡ qnameRows) ⌝ }
     ensures { λ r. ⌜ (now (events .exit) ≡ put4 (now (events .entry)) (v .events) token (v .at) (rowAt (now (qstack .entry)) (v .qbase) (number .0)) 0)
         × (r ≡ evented v mode next) ⌝ }
 {
@@ -114,8 +114,8 @@ pub fn add_element(
     number: QnameNumber,
     next: usize,
 ) -> View
-    requires { ⌜ (v .events < 4096) × (eventWidth * v .events + eventWidth ≤ length (now events)) × (v .at ≤ 65536) × (v .qbase + number .0 ≤ 1024)
-        × (length (now qstack) ≡ 1024) × (v .elements ≤ 64) × (v .opened ≤ 64) ⌝ }
+    requires { ⌜ (v .events < eventRows) × (eventWidth * v .events + eventWidth ≤ length (now events)) × (v .at ≤ longest) × (v .qbase + number .0 ≤ qnameRows)
+        × (length (now qstack) ≡ qnameRows) × (v .elements ≤ openElements) × (v .opened ≤ openElements) ⌝ }
     ensures { λ r. ⌜ (now (events .exit) ≡ put4 (now (events .entry)) (v .events) ELEMENT-TOKEN (v .at) (rowAt (now (qstack .entry)) (v .qbase) (number .0)) 0)
         × (r ≡ entered v next) ⌝ }
 {
@@ -137,8 +137,8 @@ fn add_pi(
     start: usize,
     next: usize,
 ) -> View
-    requires { ⌜ (v .events < 4096) × (eventWidth * v .events + eventWidth ≤ length (now events)) × (v .at ≤ 65536) × (v .base + target .0 ≤ 1024)
-        × (length (now stack) ≡ 1024) × (start ≤ 65536) ⌝ }
+    requires { ⌜ (v .events < eventRows) × (eventWidth * v .events + eventWidth ≤ length (now events)) × (v .at ≤ longest) × (v .base + target .0 ≤ nameRows)
+        × (length (now stack) ≡ nameRows) × (start ≤ longest) ⌝ }
     ensures { λ r. ⌜ (now (events .exit) ≡ put4 (now (events .entry)) (v .events) PI-TOKEN (v .at) (rowAt (now (stack .entry)) (v .base) (target .0)) start)
         × (r ≡ evented v (afterMisc (v .mode)) next) ⌝ }
 {
@@ -154,7 +154,7 @@ fn add_pi(
 }
 
 pub fn close_element(events: &mut [u32], v: View, next: usize) -> View
-    requires { ⌜ (v .events < 4096) × (eventWidth * v .events + eventWidth ≤ length (now events)) × (v .at ≤ 65536) × (0 < v .elements) × (v .elements ≤ v .opened) ⌝ }
+    requires { ⌜ (v .events < eventRows) × (eventWidth * v .events + eventWidth ≤ length (now events)) × (v .at ≤ longest) × (0 < v .elements) × (v .elements ≤ v .opened) ⌝ }
     ensures { λ r. ⌜ (now (events .exit) ≡ put4 (now (events .entry)) (v .events) ENDELEMENT-TOKEN (v .at) 0 0) × (r ≡ elementClosed v next) ⌝ }
 {
     rows::put_event(events, v, token::ENDELEMENT_TOKEN, 0, 0);
@@ -163,13 +163,13 @@ pub fn close_element(events: &mut [u32], v: View, next: usize) -> View
 
 fn enter_document(
     events: &mut [u32],
-    frames: &mut [usize; 48],
+    frames: &mut [usize; rows::FRAMES],
     v: View,
     version: usize,
     next: usize,
 ) -> View
-    requires { ⌜ (v .events < 4096) × (eventWidth * v .events + eventWidth ≤ length (now events)) × (v .at ≤ 65536) × (version ≤ 2) × (v .depth < 8)
-        × (length (now frames) ≡ 48) × (v .base + v .known ≤ 1024) × (v .qbase + v .qknown ≤ 1024) ⌝ }
+    requires { ⌜ (v .events < eventRows) × (eventWidth * v .events + eventWidth ≤ length (now events)) × (v .at ≤ longest) × (version ≤ 2) × (v .depth < nestedDocuments)
+        × (length (now frames) ≡ frameNumbers) × (v .base + v .known ≤ nameRows) × (v .qbase + v .qknown ≤ qnameRows) ⌝ }
     ensures { λ r. ⌜ (now (events .exit) ≡ put4 (now (events .entry)) (v .events) NEST-TOKEN (v .at) version 0)
         × (now (frames .exit) ≡ put6 (now (frames .entry)) (v .depth) v) × (r ≡ inside v version next) ⌝ }
 {
@@ -178,9 +178,9 @@ fn enter_document(
     rows::past_nest(v, version, next)
 }
 
-fn leave_document(events: &mut [u32], frames: &[usize; 48], v: View, next: usize) -> View
-    requires { ⌜ (v .events < 4096) × (eventWidth * v .events + eventWidth ≤ length (now events)) × (v .at ≤ 65536) × (0 < v .depth) × (v .depth ≤ 8)
-        × (length (now frames) ≡ 48) ⌝ }
+fn leave_document(events: &mut [u32], frames: &[usize; rows::FRAMES], v: View, next: usize) -> View
+    requires { ⌜ (v .events < eventRows) × (eventWidth * v .events + eventWidth ≤ length (now events)) × (v .at ≤ longest) × (0 < v .depth) × (v .depth ≤ nestedDocuments)
+        × (length (now frames) ≡ frameNumbers) ⌝ }
     ensures { λ r. ⌜ (now (events .exit) ≡ put4 (now (events .entry)) (v .events) ENDNEST-TOKEN (v .at) 0 0) × (r ≡ outside (now (frames .entry)) v next) ⌝ }
 {
     rows::put_event(events, v, token::ENDNEST_TOKEN, 0, 0);
@@ -194,7 +194,7 @@ pub fn turn(
     events: &mut [u32],
     stack: &mut [u32; token::NAME_ROWS],
     qstack: &mut [u32; token::QNAME_ROWS],
-    frames: &mut [usize; 48],
+    frames: &mut [usize; rows::FRAMES],
     v: View,
     room: Room,
     size: usize,

@@ -6,7 +6,7 @@ ghost use mathlib.Core.List.{[], _∷_, map};
 ghost use Prim.Native.Nat.{_+_, _*_, _≤_, _<_};
 ghost use lib.ListN.{length};
 ghost use Rattle.sequences.specs.Lists.{unitsOf};
-ghost use Rattle.token.specs.Tokens.{shapeOf};
+ghost use Rattle.token.specs.Tokens.{shapeOf, longest};
 ghost use Rattle.rules.specs.Rules.{lawful};
 ghost use Rattle.base64.specs.Base64.{Alphabet};
 ghost use Rattle.plan.specs.Text.{textOf};
@@ -17,15 +17,15 @@ ghost use Rattle.symbols.specs.Store.{PutHashed};
 ghost use Rattle.symbols.specs.Values.{valueCodes, wayOf};
 use plan::Plan;
 
-// The numbers of the marks that close an attribute and an element, and of the first mark of a value's token and of a byte; 8 more is the
+// The numbers of the marks that close an attribute and an element, and of the first mark of a value's token and of a byte; `MARK_KINDS` more is the
 // next (`mark`, meaning/specs/Codes.antt).
-pub const END_MARK: u32 = 65539;
+pub const END_MARK: u32 = meaning::FIRST_MARK + 3;
 
-pub const CLOSING_MARK: u32 = 65540;
+pub const CLOSING_MARK: u32 = meaning::FIRST_MARK + 4;
 
-const TOKEN_MARK: u32 = 65541;
+const TOKEN_MARK: u32 = meaning::FIRST_MARK + 5;
 
-const BYTE_MARK: u32 = 65542;
+const BYTE_MARK: u32 = meaning::FIRST_MARK + 6;
 
 // The place of the next number, and the hash of the record's numbers before it.
 pub struct Cursor {
@@ -84,7 +84,7 @@ pub fn put_bytes(src: &[u8], syms: &mut [u32], p: Cursor) -> Cursor
     let mut h = p.hash;
     let mut k = 0;
     while k < src.len() {
-        let byte = BYTE_MARK + 8 * slices::wide32(src[k]);
+        let byte = BYTE_MARK + meaning::MARK_KINDS * slices::wide32(src[k]);
         syms[at + k] = byte;
         h = hash::mix(h, byte);
         k += 1;
@@ -102,13 +102,17 @@ pub fn put_value(token: u8, payload: &[u8], syms: &mut [u32], p: Cursor) -> Curs
     requires { ⌜ p .at + 1 + length (now payload) ≤ length (now syms) ⌝ }
     ensures { λ r. ⌜ PutHashed (now (syms .entry)) p (mark 5 token ∷ map (mark 6) (now (payload .entry))) (now (syms .exit)) r ⌝ }
 {
-    let after = put_one(syms, p, TOKEN_MARK + 8 * slices::wide32(token));
+    let after = put_one(
+        syms,
+        p,
+        TOKEN_MARK + meaning::MARK_KINDS * slices::wide32(token),
+    );
     put_bytes(payload, syms, after)
 }
 
 // The units of a text that is made, one by one: n of them; small and from are as `load` leaves them.
 pub fn put_made(
-    alphabet: &[u8; 64],
+    alphabet: &[u8; base64::LETTER_COUNT],
     plan: Plan,
     payload: &[u8],
     small: &[u8; 82],
@@ -138,7 +142,7 @@ pub fn put_made(
 
 // A text that is made of a blob, unit by unit. The small buffer is that of a number's text and is not read.
 pub fn put_blob(
-    alphabet: &[u8; 64],
+    alphabet: &[u8; base64::LETTER_COUNT],
     plan: Plan,
     payload: &[u8],
     syms: &mut [u32],
@@ -183,13 +187,13 @@ pub fn way_of(plan: Plan) -> u8
 
 // A value that obeys its token's rule: the units of its text, or its mark and bytes.
 pub fn put_payload(
-    alphabet: &[u8; 64],
+    alphabet: &[u8; base64::LETTER_COUNT],
     token: u8,
     payload: &[u8],
     syms: &mut [u32],
     p: Cursor,
 ) -> Cursor
-    requires { ⌜ Alphabet (now alphabet) × (lawful (shapeOf token) (now payload) ≡ true) × (length (now payload) ≤ 65536)
+    requires { ⌜ Alphabet (now alphabet) × (lawful (shapeOf token) (now payload) ≡ true) × (length (now payload) ≤ longest)
         × (p .at + 6 + 5 * length (now payload) ≤ length (now syms)) ⌝ }
     ensures { λ r. ⌜ PutHashed (now (syms .entry)) p (valueCodes token (now (payload .entry)) (textOf token (now (payload .entry)))) (now (syms .exit)) r ⌝ }
 {

@@ -10,6 +10,7 @@ ghost use Rattle.base64.specs.Base64.{base64};
 ghost use Rattle.plan.specs.Text.{shown};
 ghost use Rattle.text.specs.Shows.{Shows, partOf};
 ghost use Rattle.text.specs.Lays.{Lays, LaysEnd};
+ghost use Rattle.token.specs.Tokens.{longest};
 use chunks::Chunks;
 use plan::Plan;
 
@@ -61,7 +62,7 @@ fn show_truth(yes: bool, buffer: &mut [u8]) -> Shown
 
 // Shows bytes in hexadecimal.
 fn show_hex(p: &[u8], buffer: &mut [u8]) -> Shown
-    requires { ⌜ length (now p) ≤ 65536 ⌝ }
+    requires { ⌜ length (now p) ≤ longest ⌝ }
     ensures { λ r. ⌜ Lays (hex (now (p .entry))) (now (buffer .entry)) (now (buffer .exit)) r ⌝ }
 {
     let need = 4 * p.len();
@@ -74,7 +75,7 @@ fn show_hex(p: &[u8], buffer: &mut [u8]) -> Shown
 
 // Shows bytes in Base64.
 fn show_base64(p: &[u8], buffer: &mut [u8]) -> Shown
-    requires { ⌜ length (now p) ≤ 65536 ⌝ }
+    requires { ⌜ length (now p) ≤ longest ⌝ }
     ensures { λ r. ⌜ Lays (base64 (now (p .entry))) (now (buffer .entry)) (now (buffer .exit)) r ⌝ }
 {
     let size = (p.len() + 2) / 3 * 8;

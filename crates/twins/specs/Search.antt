@@ -9,12 +9,22 @@ use Rattle.hash.specs.Hash.{hashOf}
 use Rattle.meaning.specs.Meaning.{Pair, equalTo, pairsFrom}
 use Rattle.twins.specs.Parts.{values, Next}
 
+-- parts at most, the numbers that bound them, and the slots of their hash table
+abbrev pub mostParts : ℕ
+mostParts = 2048
+
+abbrev pub partBounds : ℕ
+partBounds = 2049
+
+abbrev pub partSlots : ℕ
+partSlots = 4096
+
 -- the hashes of the first n parts, each one place further: at place 0 stands the hash of what comes before the parts
 abbrev pub HashesOf : (ℕ → List ℕ) → ℕ → List ℕ → Type 0
 HashesOf m n hashes = (k : ℕ) → k < n → getD hashes (k + 1) 0 ≡ hashOf (m k)
 
 abbrev pub partSlot : List ℕ → ℕ
-partSlot l = hashOf l % 4096
+partSlot l = hashOf l % partSlots
 
 -- j is the first from i on, below n, at which s is b; or n
 pub record Head (s : ℕ → ℕ) (n b i j : ℕ) : Type 0 where

@@ -13,7 +13,7 @@ ghost use Rattle.sequences.specs.Lists.{overlay, same};
 ghost use Rattle.hash.specs.Hash.{hashOf};
 ghost use Rattle.meaning.specs.Meaning.{pair, pairsOf, flatPairs};
 ghost use Rattle.twins.specs.Parts.{partAt, partsOf, Cut, Next, Linked};
-ghost use Rattle.twins.specs.Search.{HashesOf, partSlot, Head, PartsChained, Nexts, twinsOf};
+ghost use Rattle.twins.specs.Search.{HashesOf, partSlot, Head, PartsChained, Nexts, twinsOf, partSlots, mostParts};
 
 // Parts of one array, at most; places where one begins or the last one ends; slots of the hash table.
 pub const PARTS: usize = 2048;
@@ -44,7 +44,7 @@ fn is_twin(
     n: usize,
     h: u64,
 ) -> bool
-    requires { ⌜ (n ≤ 2048) × Cut (now syms) (now starts) n × (i < n) × (j < n)
+    requires { ⌜ (n ≤ mostParts) × Cut (now syms) (now starts) n × (i < n) × (j < n)
         × HashesOf (partAt (now syms) (now starts)) n (now hashes)
         × (h ≡ hashOf (partAt (now syms) (now starts) i)) ⌝ }
     ensures { λ r. ⌜ r ≡ same (partAt (now (syms .entry)) (now (starts .entry)) i) (partAt (now (syms .entry)) (now (starts .entry)) j) ⌝ }
@@ -66,11 +66,11 @@ fn find(
     n: usize,
     h: u64,
 ) -> usize
-    requires { ⌜ (n ≤ 2048) × Cut (now syms) (now starts) n × (i < n)
+    requires { ⌜ (n ≤ mostParts) × Cut (now syms) (now starts) n × (i < n)
         × HashesOf (partAt (now syms) (now starts)) n (now hashes)
         × PartsChained (partAt (now syms) (now starts)) n (i + 1) (now chain)
         × (h ≡ hashOf (partAt (now syms) (now starts) i))
-        × Head (λ x. partSlot (partAt (now syms) (now starts) x)) n (h % 4096) (i + 1) first ⌝ }
+        × Head (λ x. partSlot (partAt (now syms) (now starts) x)) n (h % partSlots) (i + 1) first ⌝ }
     ensures { λ r. ⌜ Next (partAt (now (syms .entry)) (now (starts .entry))) n i r ⌝ }
 {
     let mut j = first;
@@ -85,7 +85,7 @@ fn find(
 
 // How many equal parts come after one whose next is j.
 fn after(later: &[u16; PARTS], j: usize, n: usize) -> usize
-    requires { ⌜ (n ≤ 2048) × (j < n → getD (now later) j 0 ≤ 2048) ⌝ }
+    requires { ⌜ (n ≤ mostParts) × (j < n → getD (now later) j 0 ≤ mostParts) ⌝ }
     ensures { λ r. ⌜ r ≡ cond (leb n j) 0 (getD (now (later .entry)) j 0 + 1) ⌝ }
 {
     if n <= j {
@@ -103,11 +103,11 @@ pub fn link(
     n: usize,
     next: &mut [usize; PARTS],
 ) -> usize
-    requires { ⌜ (n ≤ 2048) × Cut (now syms) (now starts) n × (length (now next) ≡ 2048)
+    requires { ⌜ (n ≤ mostParts) × Cut (now syms) (now starts) n × (length (now next) ≡ mostParts)
         × HashesOf (partAt (now syms) (now starts)) n (now hashes) ⌝ }
     ensures { λ r. ⌜ (r ≡ length (pairsOf same (partsOf (now (syms .entry)) (now (starts .entry)) n)))
         × Linked (partsOf (now (syms .entry)) (now (starts .entry)) n) (now (next .exit))
-        × (length (now (next .exit)) ≡ 2048) ⌝ }
+        × (length (now (next .exit)) ≡ mostParts) ⌝ }
 {
     // Places and counts are at most 2048: as u16 there are fewer bytes to clear.
     let mut slots = [n as u16; SLOTS];
@@ -143,7 +143,7 @@ fn write_run(
     pairs: &mut [u32],
     at: usize,
 ) -> usize
-    requires { ⌜ (n ≤ 2048) × (i < n) × Nexts (partAt (now syms) (now starts)) n 0 (now next)
+    requires { ⌜ (n ≤ mostParts) × (i < n) × Nexts (partAt (now syms) (now starts)) n 0 (now next)
         × (at + 2 * length (twinsOf (partAt (now syms) (now starts)) n i) ≤ length (now pairs)) ⌝ }
     ensures { λ r. ⌜ (now (pairs .exit) ≡ sets (now (pairs .entry)) at (flatPairs (map (pair i) (twinsOf (partAt (now (syms .entry)) (now (starts .entry))) n i))))
         × (r ≡ at + 2 * length (twinsOf (partAt (now (syms .entry)) (now (starts .entry))) n i)) ⌝ }
@@ -167,7 +167,7 @@ pub fn write_pairs(
     next: &[usize; PARTS],
     pairs: &mut [u32],
 )
-    requires { ⌜ (n ≤ 2048) × (length (now next) ≡ 2048) × Linked (partsOf (now syms) (now starts) n) (now next)
+    requires { ⌜ (n ≤ mostParts) × (length (now next) ≡ mostParts) × Linked (partsOf (now syms) (now starts) n) (now next)
         × (2 * length (pairsOf same (partsOf (now syms) (now starts) n)) ≤ length (now pairs)) ⌝ }
     ensures { λ _. ⌜ now (pairs .exit) ≡ overlay (flatPairs (pairsOf same (partsOf (now (syms .entry)) (now (starts .entry)) n))) (now (pairs .entry)) ⌝ }
 {

@@ -56,7 +56,7 @@ fn unit_of(p: &[u8], at: usize) -> u16
 
 // Unit k of the text, in constant time; `alphabet` is that of Base64, and `small` and `at` are as `load` left them.
 pub fn unit(
-    alphabet: &[u8; 64],
+    alphabet: &[u8; base64::LETTER_COUNT],
     plan: Plan,
     payload: &[u8],
     small: &[u8; 82],
