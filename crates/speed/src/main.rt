@@ -1,13 +1,24 @@
 // Does a job so many times on one file and writes a sum over its results: for counting instructions (docs/PERFORMANCE.md).
-// The programs' arguments are the number of times and the file's name. Each job has a program of its own: where two jobs are
-// in one program the compiler does not inline what both call, and counts were up to 17 % higher.
+// The arguments are the job, the number of times and the file's name. Where two jobs are in one program the compiler does not
+// inline what both call, and counts are up to 17 % higher: the script `count` puts the call of one job in `main`.
 use libc::STDOUT_FILENO;
 use text::Shown;
 
-// The places of the two arguments.
-const COUNT: usize = 1;
+// The places of the arguments.
+const JOB: usize = 1;
 
-const FILE: usize = 2;
+const COUNT: usize = 2;
+
+const FILE: usize = 3;
+
+// The numbers of the jobs.
+const READ: usize = 1;
+
+const SHOW: usize = 2;
+
+const REWRITE: usize = 3;
+
+const LIST: usize = 4;
 
 // The numbers in the list of pairs.
 const PAIRS: usize = 16384;
@@ -129,29 +140,52 @@ fn write_sum(sum: u64) {
 }
 
 // Reads the file so many times.
-pub fn read() {
+fn read() {
     let mut doc = [0u8; cases::DOCUMENT];
     let size = cases::load(FILE, &mut doc);
     write_sum(repeat_read(&doc[..size], cases::argument(COUNT)));
 }
 
+// Shows the value in the file so many times.
+fn show() {
+    let mut value = [0u8; cases::DOCUMENT];
+    let size = cases::load(FILE, &mut value);
+    write_sum(repeat_value(&value[..size], cases::argument(COUNT)));
+}
+
 // Rewrites the file so many times.
-pub fn rewrite() {
+fn rewrite() {
     let mut doc = [0u8; cases::DOCUMENT];
     let size = cases::load(FILE, &mut doc);
     write_sum(repeat_rewrite(&doc[..size], cases::argument(COUNT)));
 }
 
 // Lists the file so many times.
-pub fn list() {
+fn list() {
     let mut doc = [0u8; cases::DOCUMENT];
     let size = cases::load(FILE, &mut doc);
     write_sum(repeat_list(&doc[..size], cases::argument(COUNT)));
 }
 
-// Shows the value in the file so many times.
-pub fn show() {
-    let mut value = [0u8; cases::DOCUMENT];
-    let size = cases::load(FILE, &mut value);
-    write_sum(repeat_value(&value[..size], cases::argument(COUNT)));
+// Each job in turn.
+fn all() {
+    read();
+    show();
+    rewrite();
+    list();
+}
+
+// The job with a number, or each in turn where none has it.
+fn run(job: usize) {
+    match job {
+        READ => read(),
+        SHOW => show(),
+        REWRITE => rewrite(),
+        LIST => list(),
+        _ => all(),
+    }
+}
+
+fn main() {
+    run(cases::argument(JOB));
 }
