@@ -167,15 +167,14 @@ fn list() {
     write_sum(repeat_list(&doc[..size], cases::argument(COUNT)));
 }
 
-// Each job in turn.
+// The three jobs on a document in turn.
 fn all() {
     read();
-    show();
     rewrite();
     list();
 }
 
-// The job with a number, or each in turn where none has it.
+// The job with a number; where none has it, the three on a document.
 fn run(job: usize) {
     match job {
         READ => read(),
