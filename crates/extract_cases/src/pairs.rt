@@ -26,10 +26,6 @@ fn write_answer(a: Answer) {
     io::write_all(STDOUT_FILENO, b"\n");
 }
 
-fn wide(x: u32) -> usize {
-    x as usize
-}
-
 // Writes the first pairs of a list, each in one line.
 fn write_pairs(list: &[u32], count: usize) {
     let mut i = 0;
@@ -37,8 +33,8 @@ fn write_pairs(list: &[u32], count: usize) {
         if list.len() / 2 <= i {
             return;
         }
-        cases::say(b"", wide(list[2 * i]));
-        cases::say(b" ", wide(list[2 * i + 1]));
+        cases::say(b"", slices::cell(list, 2 * i));
+        cases::say(b" ", slices::cell(list, 2 * i + 1));
         io::write_all(STDOUT_FILENO, b"\n");
         i += 1;
     }

@@ -1,8 +1,9 @@
 -- The lines of rows, from the last to the first. Assumes nothing.
-use Prim.Native.Nat.{ℕ, suc, _+_, _-_, _*_, _≤_, _<_}
+use Prim.Native.Nat.{ℕ, zero, suc, _+_, _-_, _*_, _≤_, _<_}
 use mathlib.Core.Path.{_≡_, refl, sym, _∙_}
 use mathlib.Core.List.{List, [], _∷_, _++_}
 use native.Mathlib.Omega.{arith}
+use native.Mathlib.Nat.{mul-suc, mul-zero}
 use lib.ListN.{length, getD, take, drop, length-drop}
 use lib.Seq.{getD-drop, drop-drop, drop-cons}
 use Rattle.sequences.specs.Lists.{part}
@@ -10,7 +11,8 @@ use Rattle.machine.specs.Tables.{nameRowsIn, qnameRowsIn, eventRowsIn}
 use Rattle.print_lines.specs.Lines.{PutBefore, field}
 use Rattle.print_lines.proofs.Laws.{none-put, both-put}
 use Rattle.print_rows.specs.Rows.{numbers, rowLine, nameWord, qnameWord, eventWord, tokenDigits, nameLines, qnameLines, eventLines}
-use Rattle.token.specs.Tokens.{qnameWidth, eventWidth}
+use Rattle.print_rows.specs.Table.{tableLines}
+use Rattle.token.specs.Tokens.{nameWidth, qnameWidth, eventWidth}
 
 -- ---- a loop that puts the lines of one row after the other
 
@@ -74,58 +76,64 @@ rest-at l j i k e = rw (getD-drop, e)
 one-more : (rows k : ℕ) → 0 < k → k ≤ rows → rows - (k - 1) ≡ suc (rows - k)
 one-more rows k p q = omega arith
 
-abbrev pub namesFrom : List ℕ → ℕ → ℕ → List ℕ
-namesFrom names rows k = nameLines (nameRowsIn (rows - k) (drop (2 * k) names))
+-- ---- a table whose rows are so many numbers
 
-abbrev pub qnamesFrom : List ℕ → ℕ → ℕ → List ℕ
-qnamesFrom qnames rows k = qnameLines (qnameRowsIn (rows - k) (drop (qnameWidth * k) qnames))
+-- up to where the lines of the rows before row k may reach, where each line has room for so many bytes
+abbrev pub roomFrom : ℕ → ℕ → ℕ → ℕ → ℕ
+roomFrom line end rows k = (end - line * rows) + line * k
+
+pub times-less : (a k : ℕ) → 0 < k → a * k ≡ a * (k - 1) + a
+times-less a zero p = absurd (let q : ⊥ = omega arith in q)
+times-less a (suc k) p = let e : suc k - 1 ≡ k = omega arith in rw (e, mul-suc)
+
+pub names-table : (rows : ℕ) (table : List ℕ) → nameWidth * rows ≤ length table → nameLines (nameRowsIn rows table) ≡ tableLines nameWord nameWidth rows table
+unfolding nameLines
+names-table zero table h = refl
+names-table (suc rows) table h = rw (take-two table (omega arith), names-table rows (drop nameWidth table) (rw length-drop (omega arith)))
+
+pub qnames-table : (rows : ℕ) (table : List ℕ) → qnameWidth * rows ≤ length table → qnameLines (qnameRowsIn rows table) ≡ tableLines qnameWord qnameWidth rows table
+unfolding qnameLines
+qnames-table zero table h = refl
+qnames-table (suc rows) table h = rw (take-three table (omega arith), qnames-table rows (drop qnameWidth table) (rw length-drop (omega arith)))
+
+module _ (word : List ℕ) (width : ℕ) (table : List ℕ) (rows : ℕ) where
+  -- the lines from row k on
+  abbrev pub linesFrom : ℕ → List ℕ
+  linesFrom k = tableLines word width (rows - k) (drop (width * k) table)
+
+  pub lines-none : linesFrom rows ≡ []
+  lines-none = let z : rows - rows ≡ 0 = omega arith in rw z
+
+  pub lines-end : (k : ℕ) → k ≤ 0 → linesFrom k ≡ tableLines word width rows table
+  lines-end k h =
+      let z : k ≡ 0 = omega arith in
+      let w : rows - 0 ≡ rows = omega arith in
+      rw (z, w, mul-zero)
+
+  pub lines-next : (k : ℕ) → 0 < k → k ≤ rows → (word ++ rowLine [] (part table (width * (k - 1)) width)) ++ linesFrom k ≡ linesFrom (k - 1)
+  lines-next k more few =
+      let d : width * (k - 1) + width ≡ width * k = sym (times-less width k more) in
+      let rest : drop width (drop (width * (k - 1)) table) ≡ drop (width * k) table = rw (drop-drop, d) refl in
+      rw (one-more rows k more few, rest)
+
+-- ---- events
 
 abbrev pub eventsFrom : List ℕ → ℕ → ℕ → List ℕ
 eventsFrom events rows k = eventLines (eventRowsIn (rows - k) (drop (eventWidth * k) events))
 
 module _ (table : List ℕ) (rows : ℕ) where
-  pub names-none : namesFrom table rows rows ≡ []
-  unfolding nameLines
-  names-none = let z : rows - rows ≡ 0 = omega arith in rw z
-
-  pub qnames-none : qnamesFrom table rows rows ≡ []
-  unfolding qnameLines
-  qnames-none = let z : rows - rows ≡ 0 = omega arith in rw z
-
   pub events-none : eventsFrom table rows rows ≡ []
   unfolding eventLines
   events-none = let z : rows - rows ≡ 0 = omega arith in rw z
 
   module _ (k : ℕ) (end : k ≤ 0) where
-    names-whole : rows - k ≡ rows
-    names-whole = omega arith
-
-    pub names-end : namesFrom table rows k ≡ nameLines (nameRowsIn rows table)
-    names-end = let z : k ≡ 0 = omega arith in rw (names-whole, z)
-
-    pub qnames-end : qnamesFrom table rows k ≡ qnameLines (qnameRowsIn rows table)
-    qnames-end = let z : k ≡ 0 = omega arith in rw (names-whole, z)
+    all-rows : rows - k ≡ rows
+    all-rows = omega arith
 
     pub events-end : eventsFrom table rows k ≡ eventLines (eventRowsIn rows table)
-    events-end = let z : k ≡ 0 = omega arith in rw (names-whole, z)
+    events-end = let z : k ≡ 0 = omega arith in rw (all-rows, z)
 
   module _ (k : ℕ) (more : 0 < k) (few : k ≤ rows) where
-    pub names-next : 2 * rows ≤ length table → (nameWord ++ rowLine [] (part table (2 * (k - 1)) 2)) ++ namesFrom table rows k ≡ namesFrom table rows (k - 1)
-    unfolding nameLines
-    names-next h =
-        let t = take-two (drop (2 * (k - 1)) table) (rw length-drop (omega arith)) in
-        let d : 2 * (k - 1) + 2 ≡ 2 * k = omega arith in
-        let rest : drop 2 (drop (2 * (k - 1)) table) ≡ drop (2 * k) table = rw (drop-drop, d) refl in
-        rw (one-more rows k more few, t, rest)
-
-    pub qnames-next : qnameWidth * rows ≤ length table → (qnameWord ++ rowLine [] (part table (qnameWidth * (k - 1)) 3)) ++ qnamesFrom table rows k ≡ qnamesFrom table rows (k - 1)
-    unfolding qnameLines
-    qnames-next h =
-        let t = take-three (drop (qnameWidth * (k - 1)) table) (rw length-drop (omega arith)) in
-        let d : qnameWidth * (k - 1) + 3 ≡ qnameWidth * k = omega arith in
-        let rest : drop 3 (drop (qnameWidth * (k - 1)) table) ≡ drop (qnameWidth * k) table = rw (drop-drop, d) refl in
-        rw (one-more rows k more few, t, rest)
-
     pub events-next : {token : ℕ} → eventWidth * rows ≤ length table → token ≡ getD table (eventWidth * (k - 1)) 0
         → ((eventWord ++ tokenDigits token) ++ rowLine [] (part table (eventWidth * (k - 1) + 1) 3)) ++ eventsFrom table rows k ≡ eventsFrom table rows (k - 1)
     unfolding eventLines

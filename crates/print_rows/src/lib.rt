@@ -6,9 +6,10 @@ ghost use lib.ListN.{length};
 ghost use Rattle.sequences.specs.Lists.{part};
 ghost use Rattle.machine.specs.Tables.{nameRowsIn, qnameRowsIn, eventRowsIn};
 ghost use Rattle.print_lines.specs.Lines.{PutBefore};
-ghost use Rattle.print_rows.specs.Rows.{rowLine, tokenDigits, eventWord, nameLines, qnameLines, eventLines, rowLines};
+ghost use Rattle.print_rows.specs.Rows.{rowLine, tokenDigits, eventWord, eventLines, rowLines};
+ghost use Rattle.print_rows.specs.Table.{tableLines, lineRoom};
 ghost use Rattle.token.specs.Tokens.{nameWidth, qnameWidth, eventWidth, nameRows, qnameRows, eventRows};
-ghost use Rattle.print_rows.specs.Room.{answerEnd, namesEnd, qnamesEnd, rowsEnd, nameLine, qnameLine, eventLine};
+ghost use Rattle.print_rows.specs.Room.{answerEnd, qnamesEnd, rowsEnd, eventLine};
 
 // The bytes of the longest text that is printed, and so the place after the lines.
 pub const ROWS_END: usize = 239771;
@@ -29,32 +30,25 @@ fn put_numbers(text: &mut [u8], end: usize, table: &[u32], from: usize, count: u
     at
 }
 
-// A line for each of the first `rows` rows of a table of names.
-fn put_names(text: &mut [u8], end: usize, names: &[u32], rows: usize) -> usize
-    requires { ⌜ (nameWidth * rows ≤ length (now names)) × (rows ≤ nameRows) × (answerEnd + nameLine * rows ≤ end) × (end ≤ length (now text)) ⌝ }
-    ensures { λ r. ⌜ PutBefore (now (text .entry)) (now (text .exit)) end r (nameLines (nameRowsIn rows (now (names .entry)))) × (answerEnd ≤ r) ⌝ }
+// A line with a word for each of the first `rows` rows of a table, each row of `width` numbers, three at most.
+fn put_lines(
+    text: &mut [u8],
+    end: usize,
+    word: &[u8],
+    table: &[u32],
+    rows: usize,
+    width: usize,
+) -> usize
+    requires { ⌜ (width ≤ 3) × (rows ≤ qnameRows) × (width * rows ≤ length (now table)) × (lineRoom (now word) width * rows ≤ end) × (end ≤ length (now text)) ⌝ }
+    ensures { λ r. ⌜ PutBefore (now (text .entry)) (now (text .exit)) end r (tableLines (now (word .entry)) width rows (now (table .entry)))
+        × (end ≤ r + lineRoom (now (word .entry)) width * rows) ⌝ }
 {
     let mut at = end;
     let mut k = rows;
     while 0 < k {
         k -= 1;
-        at = put_numbers(text, at, names, token::NAME_WIDTH * k, 2);
-        at = print_lines::put_word(text, at, b"name");
-    }
-    at
-}
-
-// A line for each of the first `rows` rows of a table of qnames.
-fn put_qnames(text: &mut [u8], end: usize, qnames: &[u32], rows: usize) -> usize
-    requires { ⌜ (qnameWidth * rows ≤ length (now qnames)) × (rows ≤ qnameRows) × (namesEnd + qnameLine * rows ≤ end) × (end ≤ length (now text)) ⌝ }
-    ensures { λ r. ⌜ PutBefore (now (text .entry)) (now (text .exit)) end r (qnameLines (qnameRowsIn rows (now (qnames .entry)))) × (namesEnd ≤ r) ⌝ }
-{
-    let mut at = end;
-    let mut k = rows;
-    while 0 < k {
-        k -= 1;
-        at = put_numbers(text, at, qnames, token::QNAME_WIDTH * k, 3);
-        at = print_lines::put_word(text, at, b"qname");
+        at = put_numbers(text, at, table, width * k, width);
+        at = print_lines::put_word(text, at, word);
     }
     at
 }
@@ -100,6 +94,6 @@ pub fn put_rows(
         (rowLines (nameRowsIn n (now (names .entry))) (qnameRowsIn q (now (qnames .entry))) (eventRowsIn e (now (events .entry)))) × (answerEnd ≤ r) ⌝ }
 {
     let before_events = put_events(text, ROWS_END, events, e);
-    let before_qnames = put_qnames(text, before_events, qnames, q);
-    put_names(text, before_qnames, names, n)
+    let before_qnames = put_lines(text, before_events, b"qname", qnames, q, token::QNAME_WIDTH);
+    put_lines(text, before_qnames, b"name", names, n, token::NAME_WIDTH)
 }

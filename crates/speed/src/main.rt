@@ -28,14 +28,6 @@ const FORM: usize = 65536;
 
 const TEXT: usize = 262144;
 
-fn wide(x: u32) -> u64 {
-    x as u64
-}
-
-fn wide_byte(b: u8) -> u64 {
-    b as u64
-}
-
 // The sum of the events. What was written is looked at in each loop, so that the compiler keeps the writing.
 fn repeat_read(doc: &[u8], count: usize) -> u64 {
     let mut names = [0u32; cases::NAMES];
@@ -46,9 +38,9 @@ fn repeat_read(doc: &[u8], count: usize) -> u64 {
     while i < count {
         let a: machine::Answer = reader::read(doc, &mut names, &mut qnames, &mut events);
         sum = std::num::wrapping_add_u64(sum, a.events as u64);
-        sum = std::num::wrapping_add_u64(sum, wide(names[0]));
-        sum = std::num::wrapping_add_u64(sum, wide(qnames[0]));
-        sum = std::num::wrapping_add_u64(sum, wide(events[0]));
+        sum = std::num::wrapping_add_u64(sum, slices::cell(&names, 0) as u64);
+        sum = std::num::wrapping_add_u64(sum, slices::cell(&qnames, 0) as u64);
+        sum = std::num::wrapping_add_u64(sum, slices::cell(&events, 0) as u64);
         i += 1;
     }
     sum
@@ -71,7 +63,7 @@ fn repeat_rewrite(doc: &[u8], count: usize) -> u64 {
             &mut out,
         );
         sum = std::num::wrapping_add_u64(sum, a.length as u64);
-        sum = std::num::wrapping_add_u64(sum, wide_byte(out[0]));
+        sum = std::num::wrapping_add_u64(sum, slices::wide64(out[0]));
         i += 1;
     }
     sum
@@ -94,7 +86,7 @@ fn repeat_list(doc: &[u8], count: usize) -> u64 {
             &mut pairs,
         );
         sum = std::num::wrapping_add_u64(sum, a.pairs as u64);
-        sum = std::num::wrapping_add_u64(sum, wide(pairs[0]));
+        sum = std::num::wrapping_add_u64(sum, slices::cell(&pairs, 0) as u64);
         i += 1;
     }
     sum
@@ -119,7 +111,7 @@ fn repeat_show(token: u8, payload: &[u8], count: usize) -> u64 {
         let shown = text::show(token, payload, &mut buffer);
         sum = std::num::wrapping_add_u64(sum, size_of(shown));
         let at = sum as usize % TEXT;
-        sum = std::num::wrapping_add_u64(sum, wide_byte(buffer[at]));
+        sum = std::num::wrapping_add_u64(sum, slices::wide64(buffer[at]));
         i += 1;
     }
     sum
