@@ -2,12 +2,13 @@
 use native.Mathlib.Omega.{arith}
 use Prim.Native.Nat.{_+_, _*_}
 use Rattle.print_lines.proofs.Laws.{both-put}
+use Rattle.print_rows.specs.Room.{qnamesEnd, eventLine}
 use Rattle.print_rows.proofs.Rows.{RowsSoFar, rows-start, rows-next, eventsFrom, events-none, events-next, events-end}
 use Rattle.print_rows.proofs.put_events.Statement.{statement}
 use Rattle.print_rows.proofs.put_events.Tie as tie
 
 abbrev Inv-loop : tie.InvT-loop
-Inv-loop text₀ end events rows at₀ k₀ text at k = RowsSoFar (eventsFrom events rows) (λ j. 67739 + 42 * j) text₀ text end rows at k
+Inv-loop text₀ end events rows at₀ k₀ text at k = RowsSoFar (eventsFrom events rows) (λ j. qnamesEnd + eventLine * j) text₀ text end rows at k
 
 abbrev μ-loop : tie.MeasureT-loop
 μ-loop text₀ end events rows at₀ k₀ text at k = k
@@ -15,7 +16,7 @@ abbrev μ-loop : tie.MeasureT-loop
 loop-holds : tie.Need-loop-holds Inv-loop μ-loop
 loop-holds c =
     let x = c .before .before in
-    rows-start (eventsFrom (x .args .events .now) (x .args .rows)) (λ j. 67739 + 42 * j) (x .args .text .now) (x .args .end) (x .args .rows)
+    rows-start (eventsFrom (x .args .events .now) (x .args .rows)) (λ j. qnamesEnd + eventLine * j) (x .args .text .now) (x .args .end) (x .args .rows)
     (x .pre .2) (events-none (x .args .events .now) (x .args .rows))
 
 sub-k : tie.Need-sub-k Inv-loop μ-loop
