@@ -11,7 +11,8 @@ use lib.Dec.{ltb}
 use Rattle.sequences.specs.Lists.{overlay, bytesOf}
 use Rattle.sequences.proofs.Table.{counted, at-each}
 use Rattle.sequences.proofs.Tests.{tests}
-use Rattle.base64.specs.Base64.{letter, base64, Alphabet}
+use Rattle.base64.specs.Base64.{letter, base64}
+use Rattle.base64.specs.Letters.{Alphabet}
 use Rattle.sequences.proofs.Store.{text-next, text-front}
 
 pub length-base64 : (p : List ℕ) → length (base64 p) ≡ (length p + 2) / 3 * 4

@@ -10,7 +10,8 @@ use Rattle.sequences.specs.Lists.{Bytes}
 use Rattle.sequences.proofs.Table.{counted, at-each}
 use Rattle.sequences.proofs.Tests.{tests}
 use Rattle.sequences.proofs.Units.{bytes-first, bytes-rest}
-use Rattle.base64.specs.Base64.{letter, base64, Alphabet}
+use Rattle.base64.specs.Base64.{letter, base64}
+use Rattle.base64.specs.Letters.{Alphabet}
 use Rattle.base64.proofs.Base64.{alphabet-is}
 
 -- ---- Base64

@@ -1,9 +1,7 @@
 -- The text of a blob in Base64 with padding, as 16-bit units (004, 2.3.16; RFC 3548, section 3).
-use Prim.Native.Nat.{ℕ, _+_, _-_, _*_, _/_, _%_, _<_}
-use mathlib.Core.Path.{_≡_}
+use Prim.Native.Nat.{ℕ, _+_, _-_, _*_, _/_, _%_}
 use mathlib.Core.Bool.{cond}
 use mathlib.Core.List.{List, [], _∷_}
-use lib.ListN.{getD}
 use lib.Dec.{ltb, eqb}
 
 -- the letter of a number below 64: `A` to `Z`, `a` to `z`, `0` to `9`, `+`, `/` (RFC 3548, section 3, table 1)
@@ -16,7 +14,3 @@ base64 [] = []
 base64 (a ∷ []) = letter (a / 4) ∷ letter (a % 4 * 16) ∷ 61 ∷ 61 ∷ []
 base64 (a ∷ b ∷ []) = letter (a / 4) ∷ letter (a % 4 * 16 + b / 16) ∷ letter (b % 16 * 4) ∷ 61 ∷ []
 base64 (a ∷ b ∷ c ∷ l) = letter (a / 4) ∷ letter (a % 4 * 16 + b / 16) ∷ letter (b % 16 * 4 + c / 64) ∷ letter (c % 64) ∷ base64 l
-
--- a table of the alphabet: the letter of each number below 64 (RFC 3548, section 3, table 1)
-unfoldable pub Alphabet : List ℕ → Type 0
-Alphabet t = (k : ℕ) → k < 64 → getD t k 0 ≡ letter k

@@ -5,7 +5,8 @@ ghost use Prim.Native.Nat.{_+_, _-_, _*_, _/_, _≤_, _<_};
 ghost use lib.ListN.{length, take, drop, getD};
 ghost use lib.Seq.{sets};
 ghost use Rattle.sequences.specs.Lists.{overlay, bytesOf};
-ghost use Rattle.base64.specs.Base64.{letter, base64, Alphabet};
+ghost use Rattle.base64.specs.Base64.{letter, base64};
+ghost use Rattle.base64.specs.Letters.{Alphabet};
 ghost use Rattle.token.specs.Tokens.{longest};
 
 // The letters of Base64.

@@ -6,7 +6,7 @@ use native.Mathlib.Omega.{arith}
 use lib.ListN.{length, getD, set, take, length-set}
 use lib.Seq.{getD-set-same, getD-set-other, getD-take, length-take-le, ext-getD}
 use borrow.Author.Count.{below-none, below-more}
-use Rattle.sequences.specs.Lists.{Front}
+use Rattle.sequences.specs.Arrays.{Front}
 
 pub record FirstValues (f : ℕ → ℕ) (n : ℕ) (l : List ℕ) : Type 0 where
   pub long : length l ≡ 1024

@@ -2,9 +2,9 @@
 use Prim.Native.Nat.{ℕ, _+_, _≤_, _<_}
 use mathlib.Core.List.{List}
 use lib.ListN.{length, getD}
-use Rattle.modes.specs.Modes.{numberOf}
+use Rattle.modes.specs.Modes.{modeNumber}
 use Rattle.scan.specs.Steps.{stepAt}
-use Rattle.modes.specs.declared.Mode.the-variants.{Content}
+use Rattle.modes.specs.declared.Mode.the-variants.{Content, AfterPublic}
 use Rattle.modes.specs.declared.View.{View}
 use Rattle.scan.specs.declared.Room.{Room}
 use Rattle.scan.specs.declared.Step.{Step}
@@ -22,5 +22,5 @@ commonStep doc v room (Fixed size) = step.Event (getD doc (v .at) 0) (v .at + 1)
 -- what all three ask for: a byte, where content may stand, and a row of events
 pub record Ready (doc : List ℕ) (v : View) (room : Room) : Type 0 where
   pub here : v .at < length doc
-  pub in-content : numberOf (v .mode) ≤ 6
+  pub in-content : modeNumber (v .mode) ≤ modeNumber AfterPublic
   pub row-left : v .events < room .events

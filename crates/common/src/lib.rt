@@ -62,7 +62,7 @@ pub fn common_at(table: &[u16; 256], doc: &[u8], v: View, room: Room) -> Common
         return Common::Other;
     }
     let mode = v.mode;
-    if modes::AFTER_PUBLIC < modes::number_of(mode) {
+    if modes::AFTER_PUBLIC < modes::mode_number(mode) {
         return Common::Other;
     }
     if room.events <= v.events {

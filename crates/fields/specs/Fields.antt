@@ -3,7 +3,7 @@ use Prim.Native.Nat.{ℕ, _+_}
 use mathlib.Core.Bool.{cond, _&&_}
 use mathlib.Core.List.{List}
 use lib.Dec.{leb, ltb}
-use Rattle.token.specs.Tokens.{notDefined, missing, badHeader}
+use Rattle.token.specs.Tokens.{mb32, notDefined, missing, badHeader}
 use Rattle.number.specs.Number.{numberAt}
 use Rattle.number.specs.declared.Number.{Number}
 use Rattle.number.specs.declared.Number.the-variants as number
@@ -18,21 +18,21 @@ use Rattle.fields.specs.declared.Header.the-variants.{Is, Refused}
 -- ---- references (004, sections 2.2.2 and 2.2.4; 01, "Document rules")
 
 -- in a document that has `known` names: a number over that is 6 at its first byte; name 0 is the empty text
-abbrev pub nameAfter : ℕ → ℕ → Number → Name
-nameAfter known at (number.Is value next) = cond (leb value known) (name.Is (record { 0 = value }) next) (name.Refused notDefined at)
-nameAfter known at (number.Refused number place) = name.Refused number place
+abbrev pub nameJudged : ℕ → ℕ → Number → Name
+nameJudged known at (number.Is value next) = cond (leb value known) (name.Is (record { 0 = value }) next) (name.Refused notDefined at)
+nameJudged known at (number.Refused number place) = name.Refused number place
 
 unfoldable pub nameAt : ℕ → List ℕ → ℕ → Name
-nameAt known doc at = nameAfter known at (numberAt 5 doc at)
+nameAt known doc at = nameJudged known at (numberAt mb32 doc at)
 
 -- in a document that has `known` qnames: so is qname 0
-abbrev pub qnameAfter : ℕ → ℕ → Number → Qname
-qnameAfter known at (number.Is value next) =
+abbrev pub qnameJudged : ℕ → ℕ → Number → Qname
+qnameJudged known at (number.Is value next) =
     cond (leb 1 value && leb value known) (qname.Is (record { 0 = value }) next) (qname.Refused notDefined at)
-qnameAfter known at (number.Refused number place) = qname.Refused number place
+qnameJudged known at (number.Refused number place) = qname.Refused number place
 
 unfoldable pub qnameAt : ℕ → List ℕ → ℕ → Qname
-qnameAt known doc at = qnameAfter known at (numberAt 5 doc at)
+qnameAt known doc at = qnameJudged known at (numberAt mb32 doc at)
 
 -- ---- the header (004, section 2.1.1; 01, "Document rules"): DF FF, version 01 or 02, B0 04, byte by byte
 

@@ -29,7 +29,7 @@ pub enum Header {
 pub fn name_at(doc: &[u8], at: usize, known: usize) -> Name
     ensures { λ r. ⌜ (r ≡ nameAt known (now (doc .entry)) at) × NameWithin (length (now (doc .entry))) at known r ⌝ }
 {
-    match number::read(doc, at, 5) {
+    match number::read(doc, at, token::MB32) {
         Number::Refused { number, place } => Name::Refused { number, place },
         Number::Is { value, next } => {
             if value <= known {
@@ -51,7 +51,7 @@ pub fn name_at(doc: &[u8], at: usize, known: usize) -> Name
 pub fn qname_at(doc: &[u8], at: usize, known: usize) -> Qname
     ensures { λ r. ⌜ (r ≡ qnameAt known (now (doc .entry)) at) × QnameWithin (length (now (doc .entry))) at known r ⌝ }
 {
-    match number::read(doc, at, 5) {
+    match number::read(doc, at, token::MB32) {
         Number::Refused { number, place } => Qname::Refused { number, place },
         Number::Is { value, next } => {
             if value == 0 {

@@ -6,8 +6,9 @@ use mathlib.Core.Logic.{_⊎_}
 use mathlib.Core.List.{List, [], _∷_, _++_}
 use mathlib.Core.Option.{some}
 use lib.ListN.{length, getD}
-use Rattle.sequences.specs.Lists.{Front, part}
-use Rattle.token.specs.Tokens.{shapeOf, PI-TOKEN, NEST-TOKEN, ENDNEST-TOKEN, qnameWidth, eventWidth, nameRows, qnameRows}
+use Rattle.sequences.specs.Lists.{part}
+use Rattle.sequences.specs.Arrays.{Front}
+use Rattle.token.specs.Tokens.{mb32, shapeOf, PI-TOKEN, NEST-TOKEN, ENDNEST-TOKEN, qnameWidth, eventWidth, nameRows, qnameRows, nestedDocuments}
 use Rattle.number.specs.Number.{shortest}
 use Rattle.value.specs.Fields.{textAt}
 use Rattle.value.specs.declared.Text.the-variants as text
@@ -48,7 +49,7 @@ baseAt depth = region * depth
 unfoldable pub piBytes : Tables → List ℕ → ℕ → ℕ → ℕ → List ℕ
 piBytes t slots base class start =
     bytesBefore (t .doc) (t .names) slots base class
-    ++ (PI-TOKEN ∷ (shortest (numberIn (slotsAfter slots base class) base class) ++ withUnits (dataIn (t .doc) (textAt 5 (t .doc) start))))
+    ++ (PI-TOKEN ∷ (shortest (numberIn (slotsAfter slots base class) base class) ++ withUnits (dataIn (t .doc) (textAt mb32 (t .doc) start))))
 
 -- an event with a qname: the definitions that it needs, its token and the qname's number
 unfoldable pub referBytes : Tables → List ℕ → List ℕ → ℕ → ℕ → ℕ → ℕ → List ℕ
@@ -134,7 +135,7 @@ pub record Ready (t : Tables) (rows qrows : ℕ) : Type 0 where
 pub record TextThere (doc : List ℕ) (start : ℕ) : Type 0 where
   pub place : ℕ
   pub units : ℕ
-  pub is : textAt 5 doc start ≡ text.Is place units
+  pub is : textAt mb32 doc start ≡ text.Is place units
 
 abbrev pub ItemFits : Tables → ℕ → ℕ → ℕ → Item → Type 0
 ItemFits t rows qrows depth (Byte value) = value < 256
@@ -142,7 +143,7 @@ ItemFits t rows qrows depth (Texted token place units) = (token < 256) × (place
 ItemFits t rows qrows depth (Pi row start) = (row ≤ rows) × TextThere (t .doc) start
 ItemFits t rows qrows depth (Refer token row) = (token < 256) × (1 ≤ row) × (row ≤ qrows)
 ItemFits t rows qrows depth (Valued token place size) = (token < 256) × (place + size ≤ length (t .doc))
-ItemFits t rows qrows depth (Nest version) = (version ≤ 2) × (depth < 8)
+ItemFits t rows qrows depth (Nest version) = (version ≤ 2) × (depth < nestedDocuments)
 ItemFits t rows qrows depth Leave = 1 ≤ depth
 
 -- ---- what the tables hold when the walk begins

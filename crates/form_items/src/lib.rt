@@ -1,4 +1,4 @@
-// One row of events in the form: what it asks of the walk, its bytes, written or only withUnits, and what it defines.
+// One row of events in the form: what it asks of the walk, its bytes, written or only counted, and what it defines.
 ghost use mathlib.Core.Path.{_≡_};
 ghost use Prim.Native.Nat.{_+_, _*_, _≤_, _<_};
 ghost use lib.ListN.{length, getD};
@@ -190,7 +190,7 @@ fn put_pi(
     let p = form_names::define_name(doc, names, out, slots, rows, at, base, class);
     form_output::put(out, p, token::PI_TOKEN);
     let x = form_output::put_number(out, p + 1, form_slots::number_in(slots, base, class));
-    match value::text_at(doc, start, 5) {
+    match value::text_at(doc, start, token::MB32) {
         Text::Is { place, units } => form_bytes::put_text(doc, place, units, out, x),
         Text::Refused {
             number: _,

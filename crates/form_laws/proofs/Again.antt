@@ -14,7 +14,7 @@ use Rattle.token.specs.declared.Class.{Class}
 use Rattle.token.specs.declared.Class.the-variants as class
 use Rattle.value.specs.Fields.{textAt}
 use Rattle.value.specs.declared.Text.the-variants as text
-use Rattle.modes.specs.Modes.{content, listing, is, allowed, afterMisc, afterValue}
+use Rattle.modes.specs.Modes.{content, inAttributes, is, allowed, afterMisc, afterValue}
 use Rattle.scan.specs.Steps.{textStep, classStep}
 use Rattle.modes.specs.declared.Mode.{Mode}
 use Rattle.modes.specs.declared.Mode.the-variants as mode
@@ -47,10 +47,10 @@ use Rattle.form_laws.proofs.Follow.{TextTold, Next, on-text, on-bare, o
 use Rattle.form_laws.proofs.Turns.{value-may, on-value, on-standalone, on-pi, on-nest, leaveRows, on-leave, on-name, on-qnamedef, on-skip, on-flush}
 
 -- metadata may stand where an element, and where an attribute may
-content-or : (m : Mode) → content m ≡ true → (content m || listing m) ≡ true
+content-or : (m : Mode) → content m ≡ true → (content m || inAttributes m) ≡ true
 content-or m e = rw e
 
-tag-or : (m : Mode) → (is m mode.Tag || listing m) ≡ true → (content m || listing m) ≡ true
+tag-or : (m : Mode) → (is m mode.Tag || inAttributes m) ≡ true → (content m || inAttributes m) ≡ true
 tag-or mode.Content e = refl
 tag-or mode.Tag e = refl
 tag-or mode.First e = refl

@@ -9,13 +9,13 @@ use native.Mathlib.Omega.{arith}
 use lib.ListN.{length, getD, drop, length-append}
 use Rattle.sequences.specs.Lists.{same}
 use Rattle.token.specs.Tokens.{largest}
-use Rattle.modes.specs.Modes.{content, listing, inDeclaration, afterMetadata}
+use Rattle.modes.specs.Modes.{content, inAttributes, inDeclaration, afterMetadata}
 use Rattle.modes.specs.declared.Mode.{Mode}
 use Rattle.scan.specs.declared.Room.{Room}
 use Rattle.machine.specs.Machine.{NameRow, QnameRow, nameRow, qnameRow, State, rowOf, nameText}
 use Rattle.form.specs.Canonical.{Triple, triple, sameTriple, place, absent, fresh, numberOf, grownIf, grown, withUnits, defined, Scopes, scopes, definition, withTexts, definitions, qnameBytes, qnameDefinition, withQname}
 use Rattle.form.proofs.Places.{tells-text, tells-triple}
-use Rattle.grammar.specs.Grammar.{named, qnamed, a-namedef, namedef, a-qnamedef, qnamedef}
+use Rattle.grammar.specs.Grammar.{pastNameDef, pastQnameDef, a-namedef, namedef, a-qnamedef, qnamedef}
 use Rattle.grammar.proofs.Leaves.{number-found}
 use Rattle.grammar.proofs.Sound.{pointOf}
 use Rattle.grammar.proofs.Steps.{stateOf, Reach, stay, metadata, _⨾_}
@@ -29,7 +29,7 @@ use Rattle.form_laws.proofs.Scopes.{Onto, onto-same, onto-on, onto-name
 -- metadata may stand here
 pub record Metas (m : Mode) : Type 0 where
   pub outside : inDeclaration m ≡ false
-  pub may : (content m || listing m) ≡ true
+  pub may : (content m || inAttributes m) ≡ true
 
 pub metas-alike : {m m′ : Mode} → Alike m m′ → Metas m → Metas m′
 metas-alike a h = record { outside = a .declarations ∙ h .outside; may = rw (a .contents, a .listings) (h .may) }
@@ -133,7 +133,7 @@ module _ (d : List ℕ) (N : List NameRow) (Q : List QnameRow) (d′ : List ℕ)
       let A = s′ .names in
       let B = s′ .qnames in
       let row : NameRow = nameRow (x .place) (length t / 2) in
-      let to : State = stateOf (named (pointOf s′) (x .place) (length t / 2)) (afterMetadata (s′ .mode)) (s′ .here .elements) (s′ .outer) in
+      let to : State = stateOf (pastNameDef (pointOf s′) (x .place) (length t / 2)) (afterMetadata (s′ .mode)) (s′ .here .elements) (s′ .outer) in
       let on = onto-name A B row in
       let new : (M : List NameRow) (P : List QnameRow) → Onto (A ++ (row ∷ [])) B M P → nameIs d′ M (length A + 1) ≡ some t =
       λ M P y. rw (add-one (length A), y .names-are, at-last A row (y .more)) (ap some (x .is)) in
@@ -213,7 +213,7 @@ module _ (d : List ℕ) (N : List NameRow) (Q : List QnameRow) (d′ : List ℕ)
       let z = number-at d′ 5 (y .next) (numberOf c (q .local)) _ (omega arith) (omega (arith, nl .low, ls .known, few .names)) (y .after) in
       let known = s′ .here .names in
       let row : QnameRow = qnameRow (rowOf known (numberOf c (q .uri))) (rowOf known (numberOf c (q .prefix))) (rowOf known (numberOf c (q .local))) in
-      let to : State = stateOf (qnamed (pointOf s′) (numberOf c (q .uri)) (numberOf c (q .prefix)) (numberOf c (q .local)) (z .next)) (afterMetadata (s′ .mode)) (s′ .here .elements) (s′ .outer) in
+      let to : State = stateOf (pastQnameDef (pointOf s′) (numberOf c (q .uri)) (numberOf c (q .prefix)) (numberOf c (q .local)) (z .next)) (afterMetadata (s′ .mode)) (s′ .here .elements) (s′ .outer) in
       let on = onto-qname A B row in
       let new : (M : List NameRow) (P : List QnameRow) → Onto A (B ++ (row ∷ [])) M P → rowTriple d′ M P (length B + 1) ≡ some q =
       λ M P o.

@@ -19,7 +19,7 @@ use Rattle.scan.specs.declared.Room.{Room}
 use Rattle.machine.specs.Machine.{NameRow, QnameRow, EventRow, event, scope, State, rowOf, Event, plain, nameText, qnameEvent, eventOf}
 use Rattle.machine.specs.Machine as machine
 use Rattle.form.specs.Canonical.{Triple, sameTriple, place, qnumberOf, withUnits, Scopes, emit, scopesAfter, body, qnameDefinition}
-use Rattle.grammar.specs.Grammar.{Byte, Point, evented, ended, referred, TextToken, texttoken, Qname}
+use Rattle.grammar.specs.Grammar.{Byte, Point, pastEvent, pastEnd, pastQname, TextToken, texttoken, QnameReference}
 use Rattle.grammar.proofs.Leaves.{number-found}
 use Rattle.grammar.proofs.Sound.{pointOf}
 use Rattle.grammar.proofs.Steps.{stateOf, _⨾_}
@@ -124,12 +124,12 @@ module _ (d : List ℕ) (N : List NameRow) (Q : List QnameRow) (d′ : List ℕ)
   pub on-event : {s s′ : State} {σ : Scopes} {G : Ghost} {w : List ℕ} {rs : List EventRow} (r r′ : EventRow) (m m′ : Mode) (el el′ next next′ : ℕ)
       → Sim d N Q d′ room fit s s′ σ G w → el′ ≡ el → Earlier m m′ → r′ .token ≡ r .token
       → ((M : List NameRow) (P : List QnameRow) → Onto (s′ .names) (s′ .qnames) M P → eventOf d′ M P r′ ≡ tell r)
-      → Walk d N Q d′ room fit s′ (stateOf (evented (pointOf s′) r′ next′) m′ el′ (s′ .outer)) → drop next′ d′ ≡ body σ (map tell rs)
+      → Walk d N Q d′ room fit s′ (stateOf (pastEvent (pointOf s′) r′ next′) m′ el′ (s′ .outer)) → drop next′ d′ ≡ body σ (map tell rs)
       → Next (machine.onward s r m (scope (s .here .version) (s .here .names) (s .here .qnames) el) next) rs → Again s′ (r ∷ rs)
   on-event {s} {s′} {σ} {G} r r′ m m′ el el′ next next′ S i o k f w e go =
       let n = S .events in
       with-event r r′ w refl refl refl k f
-      (go (stateOf (evented (pointOf s′) r′ next′) m′ el′ (s′ .outer)) σ G o
+      (go (stateOf (pastEvent (pointOf s′) r′ next′) m′ el′ (s′ .outer)) σ G o
       (record {
         here = record { version = S .here .version; elements = i; names = S .here .names; qnames = S .here .qnames; parts = S .here .parts };
         outer = S .outer;
@@ -160,7 +160,7 @@ module _ (d : List ℕ) (N : List NameRow) (Q : List QnameRow) (d′ : List ℕ)
 
   pub on-bare : {s : State} {rs : List EventRow} (k : ℕ) {token : ℕ} (m : Mode) (down : ℕ → ℕ) → token ≡ k → PlainTold k → eqb k 0xEB ≡ false
       → ((s′ : State) → Earlier (s .mode) (s′ .mode) → s′ .here .elements ≡ s .here .elements → Byte d′ (s′ .at) k
-      → Walk d N Q d′ room fit s′ (stateOf (ended (pointOf s′) k) m (down (s′ .here .elements)) (s′ .outer)))
+      → Walk d N Q d′ room fit s′ (stateOf (pastEnd (pointOf s′) k) m (down (s′ .here .elements)) (s′ .outer)))
       → Next (machine.onward s (event token (s .at) 0 0) m (scope (s .here .version) (s .here .names) (s .here .qnames) (down (s .here .elements))) (s .at + 1)) rs
       → Next s (event token (s .at) 0 0 ∷ rs)
   on-bare {s} {rs} k {token} m down i says n walk go s′ σ G o S =
@@ -177,8 +177,8 @@ module _ (d : List ℕ) (N : List NameRow) (Q : List QnameRow) (d′ : List ℕ)
   pub on-qname : {s : State} {rs : List EventRow} (k : ℕ) {token n next : ℕ} {m : Mode} (to : Mode → Mode) (up : ℕ → ℕ) → Few s → token ≡ k → QnameTold k → 1 ≤ n → n ≤ length (s .here .qnames)
       → Metas (s .mode) → ((m′ : Mode) → Alike (s .mode) m′ → to m′ ≡ m)
       → ((s′ : State) (σ : Scopes) (G : Ghost) (w : List ℕ) (n′ next′ : ℕ) → Alike (s .mode) (s′ .mode) → Sim d N Q d′ room fit s s′ σ G w
-      → Byte d′ (s′ .at) k → Qname d′ (pointOf s′) (s′ .at + 1) n′ next′
-      → Walk d N Q d′ room fit s′ (stateOf (referred (pointOf s′) k n′ next′) (to (s′ .mode)) (up (s′ .here .elements)) (s′ .outer)))
+      → Byte d′ (s′ .at) k → QnameReference d′ (pointOf s′) (s′ .at + 1) n′ next′
+      → Walk d N Q d′ room fit s′ (stateOf (pastQname (pointOf s′) k n′ next′) (to (s′ .mode)) (up (s′ .here .elements)) (s′ .outer)))
       → Next (machine.onward s (event token (s .at) (rowOf (s .here .qnames) n) 0) m (scope (s .here .version) (s .here .names) (s .here .qnames) (up (s .here .elements))) next) rs
       → Next s (event token (s .at) (rowOf (s .here .qnames) n) 0 ∷ rs)
   unfolding qnumberOf

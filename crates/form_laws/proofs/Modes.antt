@@ -4,7 +4,7 @@ use mathlib.Core.Path.{_≡_, refl, _∙_}
 use mathlib.Core.Logic.{_⊎_, inl, inr}
 use mathlib.Core.Bool.{true}
 use Rattle.token.specs.declared.Class.{Class}
-use Rattle.modes.specs.Modes.{content, listing, inDeclaration, is, allowed, afterMetadata, afterMisc, afterValue}
+use Rattle.modes.specs.Modes.{content, inAttributes, inDeclaration, is, allowed, afterMetadata, afterMisc, afterValue}
 use Rattle.modes.specs.declared.Mode.{Mode}
 use Rattle.modes.specs.declared.Mode.the-variants.{Content, Tag, First, Prolog, AfterDocType, AfterSystem, AfterPublic, Attributes, Cdata, AfterXmlDecl, AfterEncoding}
 use Rattle.modes.specs.declared.View.{View}
@@ -23,14 +23,14 @@ pub data Earlier : Mode → Mode → Type 0 where
 -- modes that no token with a name tells apart
 pub record Alike (m m′ : Mode) : Type 0 where
   pub contents : content m′ ≡ content m
-  pub listings : listing m′ ≡ listing m
+  pub listings : inAttributes m′ ≡ inAttributes m
   pub declarations : inDeclaration m′ ≡ inDeclaration m
   pub tags : is m′ Tag ≡ is m Tag
   pub sections : is m′ Cdata ≡ is m Cdata
   pub miscs : afterMisc m′ ≡ afterMisc m
   pub values : afterValue m′ ≡ afterValue m
 
-alike : {m m′ : Mode} → content m′ ≡ content m → listing m′ ≡ listing m → inDeclaration m′ ≡ inDeclaration m → is m′ Tag ≡ is m Tag → is m′ Cdata ≡ is m Cdata
+alike : {m m′ : Mode} → content m′ ≡ content m → inAttributes m′ ≡ inAttributes m → inDeclaration m′ ≡ inDeclaration m → is m′ Tag ≡ is m Tag → is m′ Cdata ≡ is m Cdata
     → afterMisc m′ ≡ afterMisc m → afterValue m′ ≡ afterValue m → Alike m m′
 alike a b c d e f g = record { contents = a; listings = b; declarations = c; tags = d; sections = e; miscs = f; values = g }
 
@@ -115,7 +115,7 @@ declaring Cdata e = clash (cc)
 declaring AfterXmlDecl e = inl refl
 declaring AfterEncoding e = inr refl
 
-pub is-listing : (m : Mode) → listing m ≡ true → m ≡ Attributes
+pub is-listing : (m : Mode) → inAttributes m ≡ true → m ≡ Attributes
 is-listing Content e = clash (cc)
 is-listing Tag e = clash (cc)
 is-listing First e = clash (cc)

@@ -7,7 +7,8 @@ use mathlib.Core.List.{List, [], _∷_, map}
 use native.Mathlib.Omega.{arith}
 use lib.ListN.{length, getElem?, drop}
 use borrow.Author.Tests.{le-ltb}
-use Rattle.sequences.specs.Lists.{Every, first, In}
+use Rattle.sequences.specs.Lists.{In}
+use Rattle.sequences.specs.Arrays.{Every, first}
 use Rattle.sequences.proofs.Overlay.{part-length}
 use Rattle.token.specs.Tokens.{accepted, longest, nameRows, qnameRows}
 use Rattle.modes.specs.Modes.{content}
@@ -21,7 +22,7 @@ use Rattle.machine.proofs.Trace.{Trace, Stopped, stops-reading}
 use Rattle.machine.proofs.Readings.{accepted-ends}
 use Rattle.machine.proofs.Facts.{rows-fit}
 use Rattle.form.specs.Canonical.{none-yet, body}
-use Rattle.grammar.specs.Grammar.{Point, Depth, Header, Document, document}
+use Rattle.grammar.specs.Grammar.{Point, Depth, HeaderBytes, Document, document}
 use Rattle.grammar.proofs.Leaves.{header-derived}
 use Rattle.grammar.proofs.Steps as steps
 use Rattle.grammar.proofs.Steps.{Fits, Path}
@@ -49,7 +50,7 @@ text-fits d N l h (suc k) = go N h k
         record { even = rw n (omega arith); small = rw n (omega arith) }
     go (r ∷ M) (first f h) (suc k) = go M h k
 
-header-in : {d : List ℕ} {m : Depth} {version : ℕ} {s t : Point} → Document d m version s t → Header d (s .at) version
+header-in : {d : List ℕ} {m : Depth} {version : ℕ} {s t : Point} → Document d m version s t → HeaderBytes d (s .at) version
 header-in (document h x y z c) = h
 
 -- the steps of a reading, as a walk
@@ -85,7 +86,7 @@ module _ (d f : List ℕ) (room : Room) (n : room .names ≤ nameRows) (q : room
       w .stop ∙ ap (λ (x : State). stepAt f (view x) room) e ∙ sym s in
       (e, cc)
 
-  pub reread : length f ≤ longest → Header f 0 (reading d room .version) → drop 5 f ≡ body none-yet (eventsRead d room) → Reread
+  pub reread : length f ≤ longest → HeaderBytes f 0 (reading d room .version) → drop 5 f ≡ body none-yet (eventsRead d room) → Reread
   unfolding eventsOf
   reread short h left =
       let version = reading d room .version in

@@ -20,7 +20,7 @@ use Rattle.value.specs.Fields.{textAt, fieldAt}
 use Rattle.value.specs.declared.Text.the-variants as text
 use Rattle.value.specs.declared.Field.the-variants as field
 use Rattle.value.proofs.Fields.{field-inside, payload-inside, payload-lawful, not-qname}
-use Rattle.modes.specs.Modes.{content, listing, inDeclaration, allowed, afterMetadata, afterMisc, afterValue}
+use Rattle.modes.specs.Modes.{content, inAttributes, inDeclaration, allowed, afterMetadata, afterMisc, afterValue}
 use Rattle.modes.specs.declared.Mode.{Mode}
 use Rattle.modes.specs.declared.Mode.the-variants as mode
 use Rattle.modes.specs.declared.View.{View}
@@ -30,7 +30,7 @@ use Rattle.machine.specs.Machine as machine
 use Rattle.machine.proofs.Found as found
 use Rattle.machine.proofs.Found.{Stands, ValueClass}
 use Rattle.form.specs.Canonical.{triple, numberOf, withUnits, lengthOf, headerOf, Scopes, scopes, scopesAfter, left, body, definition}
-use Rattle.grammar.specs.Grammar.{Point, point, headed, nesting, returned, Standalone, standalone, atomicvalue, pi}
+use Rattle.grammar.specs.Grammar.{Point, point, pastHeader, pastNest, pastEndNest, Standalone, standalone, atomicvalue, pi}
 use Rattle.grammar.proofs.Atomic.{Values, any-version, later, class-atomic}
 use Rattle.grammar.proofs.Leaves.{number-found, text-derived}
 use Rattle.grammar.proofs.Payloads.{payload-found}
@@ -47,13 +47,13 @@ use Rattle.form_laws.proofs.Follow.{text-fit, tell, Next, with-ready, w
 
 -- ---- values by their class
 
-pub value-may : (v : View) {c : Class} → ValueClass c → allowed c v ≡ true → (content (v .mode) || listing (v .mode)) ≡ true
+pub value-may : (v : View) {c : Class} → ValueClass c → allowed c v ≡ true → (content (v .mode) || inAttributes (v .mode)) ≡ true
 value-may v found.any-version a = a
-value-may v found.version-2 a = and-left (content (v .mode) || listing (v .mode)) _ a
+value-may v found.version-2 a = and-left (content (v .mode) || inAttributes (v .mode)) _ a
 
 values-of : (v : View) {c : Class} → ValueClass c → allowed c v ≡ true → Values (v .version) c
 values-of v found.any-version a = any-version
-values-of v found.version-2 a = later (eqb-true _ _ (and-right (content (v .mode) || listing (v .mode)) _ a))
+values-of v found.version-2 a = later (eqb-true _ _ (and-right (content (v .mode) || inAttributes (v .mode)) _ a))
 
 value-told : (doc : List ℕ) (names : List NameRow) (qnames : List QnameRow) (token at a b : ℕ) {c : Class} → ValueClass c → classOf token ≡ c → eqb token 0x8C ≡ false
     → eventOf doc names qnames (event token at a b) ≡ machine.valued token (part doc a b)
@@ -168,7 +168,7 @@ module _ (d : List ℕ) (N : List NameRow) (Q : List QnameRow) (d′ : List ℕ)
       let x = header-at d′ (s′ .at + 1) version w l h (b .1) in
       let a = alike-earlier o in
       let dep = around-depth d N Q d′ (S .outer) in
-      let t′ : State = stateOf (headed (nesting (pointOf s′) version) version) mode.First 0 (scope (s′ .here .version) (s′ .here .names) (s′ .here .qnames) (s′ .here .elements) ∷ s′ .outer) in
+      let t′ : State = stateOf (pastHeader (pastNest (pointOf s′) version) version) mode.First 0 (scope (s′ .here .version) (s′ .here .names) (s′ .here .qnames) (s′ .here .elements) ∷ s′ .outer) in
       let i = half-few (nameIs d N) (λ M P. nameIs d′ M) (S .here .names) in
       let j = half-few (rowTriple d N Q) (rowTriple d′) (S .here .qnames) in
       let n = S .names in
@@ -212,7 +212,7 @@ module _ (d : List ℕ) (N : List NameRow) (Q : List QnameRow) (d′ : List ℕ)
       let a = alike-earlier o in
       let f = x .first in
       let t₀ : Point = point 0 (f .version) (f .names) (f .qnames) [] [] [] in
-      let t′ : State = stateOf (returned t₀ (pointOf s′)) mode.Content (f .elements) (x .rest) in
+      let t′ : State = stateOf (pastEndNest t₀ (pointOf s′)) mode.Content (f .elements) (x .rest) in
       let m₁ = half-few (nameIs d N) (λ M P. nameIs d′ M) (S .here .names) in
       let m₂ = half-few (rowTriple d N Q) (rowTriple d′) (S .here .qnames) in
       let m₃ = half-few (nameIs d N) (λ M P. nameIs d′ M) (x .one .names) in

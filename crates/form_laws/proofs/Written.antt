@@ -20,7 +20,7 @@ use Rattle.rules.specs.Rules.{decimalSize, decimalLawful, timeBytes, timeLawful
 use Rattle.value.specs.Fields.{needed, textAt, textPayload, timeField, extentAt, fieldAt}
 use Rattle.value.specs.declared.Field.the-variants as field
 use Rattle.form.specs.Canonical.{withUnits, lengthOf, headerOf}
-use Rattle.grammar.specs.Grammar.{TextData, Header}
+use Rattle.grammar.specs.Grammar.{TextData, HeaderBytes}
 use Rattle.grammar.proofs.Leaves.{number-found}
 use Rattle.form_laws.proofs.Lists.{clash, drop-byte, Piece, piece}
 
@@ -94,7 +94,7 @@ module _ (d : List ℕ) where
 
   -- ---- headers
 
-  pub header-at : (p version : ℕ) (w : List ℕ) → 1 ≤ version → version ≤ 2 → drop p d ≡ headerOf version ++ w → Header d p version × (drop (p + 5) d ≡ w)
+  pub header-at : (p version : ℕ) (w : List ℕ) → 1 ≤ version → version ≤ 2 → drop p d ≡ headerOf version ++ w → HeaderBytes d p version × (drop (p + 5) d ≡ w)
   unfolding headerOf
   header-at p version w l h e =
       let z2 : (p + 1) + 1 ≡ p + 2 = omega arith in

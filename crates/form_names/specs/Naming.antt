@@ -10,11 +10,11 @@ use Rattle.number.specs.Number.{shortest}
 use Rattle.form.specs.Canonical.{withUnits}
 use Rattle.form_slots.specs.declared.Parts.{Parts}
 use Rattle.form_slots.specs.Slots.{isNew, slotsAfter, numberIn}
-use Rattle.token.specs.Tokens.{NAMEDEF-TOKEN, QNAMEDEF-TOKEN}
+use Rattle.token.specs.Tokens.{nameWidth, NAMEDEF-TOKEN, QNAMEDEF-TOKEN}
 
 -- the text of the row that a class is the number of
 unfoldable pub classText : List ℕ → List ℕ → ℕ → List ℕ
-classText doc names class = part doc (getD names (2 * (class - 1)) 0) (2 * getD names (2 * (class - 1) + 1) 0)
+classText doc names class = part doc (getD names (nameWidth * (class - 1)) 0) (2 * getD names (nameWidth * (class - 1) + 1) 0)
 
 -- the definition that a class needs
 unfoldable pub bytesBefore : List ℕ → List ℕ → List ℕ → ℕ → ℕ → List ℕ

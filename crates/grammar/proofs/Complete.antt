@@ -5,14 +5,14 @@ use mathlib.Core.Bool.{Bool, true, false, _||_}
 use mathlib.Core.List.{List, _∷_}
 use Rattle.token.specs.Tokens.{classOf}
 use Rattle.token.specs.declared.Class.the-variants as class
-use Rattle.modes.specs.Modes.{content, listing, inDeclaration, is, afterMetadata, afterMisc, afterValue}
+use Rattle.modes.specs.Modes.{content, inAttributes, inDeclaration, is, afterMetadata, afterMisc, afterValue}
 use Rattle.scan.specs.Steps.{classStep}
 use Rattle.modes.specs.declared.Mode.{Mode}
 use Rattle.modes.specs.declared.Mode.the-variants as mode
 use Rattle.scan.specs.declared.Room.{Room}
 use Rattle.machine.specs.Machine.{Scope, scope}
 use Rattle.machine.proofs.Outside.{misc-content}
-use Rattle.grammar.specs.Grammar.{Point, referred, ended, headed, nesting, returned, Byte, Star, nil, cons, Optional, absent, present, Depth, flat, both, inElement, inDocument, Qname, TextToken, Header, XmlDecl, xmldecl, DocTypeDecl, doctypedecl, Metadata, Comment, comment, Misc, misc-comment, misc-pi, misc-metadata, CdSect, cdsect, Part, part-metadata, part-value, Attribute, attribute, Attributes, attributes, Typed, typed, Document, document, Content, done, then, an-element, a-cdsect, a-pi, a-comment, an-atomicvalue, a-metadata, a-nestedbinaryxml, element, nestedbinaryxml}
+use Rattle.grammar.specs.Grammar.{Point, pastQname, pastEnd, pastHeader, pastNest, pastEndNest, Byte, Star, nil, cons, Optional, omitted, present, Depth, flat, both, inElement, inDocument, QnameReference, TextToken, HeaderBytes, XmlDecl, xmldecl, DocTypeDecl, doctypedecl, Metadata, Comment, comment, Misc, misc-comment, misc-pi, misc-metadata, CdSect, cdsect, Part, part-metadata, part-value, Attribute, attribute, Attributes, attributes, Typed, typed, Document, document, Content, done, then, an-element, a-cdsect, a-pi, a-comment, an-atomicvalue, a-metadata, a-nestedbinaryxml, element, nestedbinaryxml}
 use Rattle.grammar.proofs.Rest.{clash}
 use Rattle.grammar.proofs.Steps as steps
 use Rattle.grammar.proofs.Steps.{stateOf, Reach, stay, _⨾_}
@@ -169,12 +169,12 @@ module _ (opened : ℕ → List Scope → ℕ) (nested : List Scope → ℕ) (Fi
     parts (cons (part-metadata x) y) = _⨾_ opened nested doc room (steps.metadata opened nested doc room e os mode.Attributes refl refl x) (parts y)
     parts (cons (part-value x) y) = _⨾_ opened nested doc room (steps.value opened nested doc room e os mode.Attributes refl refl x) (parts y)
 
-    metas : (m : Mode) {s t : Point} → inDeclaration m ≡ false → (content m || listing m) ≡ true → afterMetadata m ≡ m → Star (Metadata doc) s t
+    metas : (m : Mode) {s t : Point} → inDeclaration m ≡ false → (content m || inAttributes m) ≡ true → afterMetadata m ≡ m → Star (Metadata doc) s t
         → Reach opened nested doc room (stateOf s m e os) (stateOf t m e os)
     metas m d c z nil = stay opened nested doc room
     metas m d c z (cons x y) = _⨾_ opened nested doc room (rw z at (steps.metadata opened nested doc room e os m d c x)) (metas m d c z y)
 
-    one-attribute : (m : Mode) {s t : Point} → inDeclaration m ≡ false → (content m || listing m) ≡ true → afterMetadata m ≡ m → (is m mode.Tag || listing m) ≡ true
+    one-attribute : (m : Mode) {s t : Point} → inDeclaration m ≡ false → (content m || inAttributes m) ≡ true → afterMetadata m ≡ m → (is m mode.Tag || inAttributes m) ≡ true
         → Attribute doc s t → Reach opened nested doc room (stateOf s m e os) (stateOf t mode.Attributes e os)
     one-attribute m d c z a (attribute {t = t} w b n p) =
         _⨾_ opened nested doc room (metas m d c z w) (_⨾_ opened nested doc room (steps.attribute opened nested doc room e os m t d a b n) (parts p))
@@ -184,7 +184,7 @@ module _ (opened : ℕ → List Scope → ℕ) (nested : List Scope → ℕ) (Fi
     more (cons x y) = _⨾_ opened nested doc room (one-attribute mode.Attributes refl refl refl refl x) (more y)
 
     tag : {s t : Point} → Optional (Attributes doc) s t → Ends content e os s mode.Tag t
-    tag {s = s} absent = here content s mode.Tag refl
+    tag {s = s} omitted = here content s mode.Tag refl
     tag (present (attributes {u = u} x y b)) =
         record {
           last = mode.Content;
@@ -195,8 +195,8 @@ module _ (opened : ℕ → List Scope → ℕ) (nested : List Scope → ℕ) (Fi
     -- ---- declarations
     declaration : {s t : Point} → Optional (XmlDecl doc) s t → Ends early e os s mode.First t
     unfolding classOf classStep
-    declaration {s = s} absent = here early s mode.First refl
-    declaration (present (xmldecl x absent y)) =
+    declaration {s = s} omitted = here early s mode.First refl
+    declaration (present (xmldecl x omitted y)) =
         record {
           last = mode.Prolog;
           good = refl;
@@ -215,7 +215,7 @@ module _ (opened : ℕ → List Scope → ℕ) (nested : List Scope → ℕ) (Fi
     subset : (m : Mode) {s t : Point} → content m ≡ true → (is m mode.AfterDocType || is m mode.AfterSystem || is m mode.AfterPublic) ≡ true
         → Optional (TextToken doc 0xF9) s t → Ends content e os s m t
     unfolding classOf classStep
-    subset m {s = s} c a absent = here content s m c
+    subset m {s = s} c a omitted = here content s m c
     subset m c a (present x) =
         record { last = mode.Content; good = refl; reach = steps.texted opened nested doc room e os 0xF9 class.Subset m mode.Content (content-not m c) refl (λ s. a) (λ s. refl) x }
 
@@ -228,7 +228,7 @@ module _ (opened : ℕ → List Scope → ℕ) (nested : List Scope → ℕ) (Fi
     public : (m : Mode) {s t u : Point} → content m ≡ true → (is m mode.AfterDocType || is m mode.AfterSystem) ≡ true → Optional (TextToken doc 0xFA) s t
         → Optional (TextToken doc 0xF9) t u → Ends content e os s m u
     unfolding classOf classStep
-    public m c a absent y = subset m c (or-left _ _ a) y
+    public m c a omitted y = subset m c (or-left _ _ a) y
     public m c a (present x) y =
         then-subset m mode.AfterPublic refl refl (steps.texted opened nested doc room e os 0xFA class.Public m mode.AfterPublic (content-not m c) refl (λ s. a) (λ s. refl) x) y
 
@@ -240,7 +240,7 @@ module _ (opened : ℕ → List Scope → ℕ) (nested : List Scope → ℕ) (Fi
 
     doc-type : (m : Mode) {s t : Point} → early m ≡ true → DocTypeDecl doc s t → Ends content e os s m t
     unfolding classOf classStep
-    doc-type m h (doctypedecl x absent y z) =
+    doc-type m h (doctypedecl x omitted y z) =
         then-public m mode.AfterDocType refl refl (steps.texted opened nested doc room e os 0xFC class.DocType m mode.AfterDocType (content-not m (early-content m h)) refl (λ s. h) (λ s. refl) x) y z
     doc-type m h (doctypedecl x (present w) y z) =
         then-public m mode.AfterSystem refl refl
@@ -248,7 +248,7 @@ module _ (opened : ℕ → List Scope → ℕ) (nested : List Scope → ℕ) (Fi
         (steps.texted opened nested doc room e os 0xFB class.System mode.AfterDocType mode.AfterSystem refl refl (λ s. refl) (λ s. refl) w)) y z
 
     type-walk : (m : Mode) {s t : Point} → early m ≡ true → Optional (Typed doc) s t → Ends content e os s m t
-    type-walk m {s = s} h absent = here content s m (early-content m h)
+    type-walk m {s = s} h omitted = here content s m (early-content m h)
     type-walk m h (present (typed x y)) =
         let a = doc-type m h x in
         let b = star content (λ s t n c z. misc-content-walk n c z) (a .last) (a .good) y in
@@ -267,8 +267,8 @@ module _ (opened : ℕ → List Scope → ℕ) (nested : List Scope → ℕ) (Fi
     from : (m : Mode) (e : ℕ) (os : List Scope) → content m ≡ true → Fit d e os → Ends content e os s m t
 
   pub record Reads (d : Depth) (version : ℕ) (s t : Point) : Type 0 where
-    pub header : Header doc (s .at) version
-    pub from : (os : List Scope) → Fit d 0 os → Ends content 0 os (headed s version) mode.First t
+    pub header : HeaderBytes doc (s .at) version
+    pub from : (os : List Scope) → Fit d 0 os → Ends content 0 os (pastHeader s version) mode.First t
 
   leaf : {s t : Point} → ((m : Mode) (e : ℕ) (os : List Scope) → content m ≡ true → Ends content e os s m t) → Walk flat s t
   leaf f = record { from = λ m e os c l. f m e os c }
@@ -282,8 +282,8 @@ module _ (opened : ℕ → List Scope → ℕ) (nested : List Scope → ℕ) (Fi
             record { last = y .last; good = y .good; reach = _⨾_ opened nested doc room (x .reach) (y .reach) };
       }
 
-  element-walk : (d : Depth) (s a t : Point) {number next : ℕ} → Byte doc (s .at) 0xF8 → Qname doc s (s .at + 1) number next
-      → Optional (Attributes doc) (referred s 0xF8 number next) a → Walk d a t → Byte doc (t .at) 0xF7 → Walk (inElement d) s (ended t 0xF7)
+  element-walk : (d : Depth) (s a t : Point) {number next : ℕ} → Byte doc (s .at) 0xF8 → QnameReference doc s (s .at + 1) number next
+      → Optional (Attributes doc) (pastQname s 0xF8 number next) a → Walk d a t → Byte doc (t .at) 0xF7 → Walk (inElement d) s (pastEnd t 0xF7)
   element-walk d s a t b n o w f =
       record {
         from = λ m e os c l.
@@ -299,8 +299,8 @@ module _ (opened : ℕ → List Scope → ℕ) (nested : List Scope → ℕ) (Fi
             };
       }
 
-  nested-walk : (d : Depth) (version : ℕ) (s t : Point) → Byte doc (s .at) 0xEC → Reads d version (nesting s version) t → Byte doc (t .at) 0xEB
-      → Walk (inDocument d) s (returned s t)
+  nested-walk : (d : Depth) (version : ℕ) (s t : Point) → Byte doc (s .at) 0xEC → Reads d version (pastNest s version) t → Byte doc (t .at) 0xEB
+      → Walk (inDocument d) s (pastEndNest s t)
   nested-walk d version s t b w f =
       record {
         from = λ m e os c l.
@@ -316,7 +316,7 @@ module _ (opened : ℕ → List Scope → ℕ) (nested : List Scope → ℕ) (Fi
             };
       }
 
-  document-reads : {d : Depth} {version : ℕ} {s a b c t : Point} → Header doc (s .at) version → Optional (XmlDecl doc) (headed s version) a → Star (Misc doc) a b
+  document-reads : {d : Depth} {version : ℕ} {s a b c t : Point} → HeaderBytes doc (s .at) version → Optional (XmlDecl doc) (pastHeader s version) a → Star (Misc doc) a b
       → Optional (Typed doc) b c → Walk d c t → Reads d version s t
   document-reads h x y z w =
       record {

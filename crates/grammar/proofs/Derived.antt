@@ -4,12 +4,12 @@ use Prim.Native.Nat.{ℕ, _+_}
 use mathlib.Core.Path.{refl}
 use mathlib.Core.List.{List, [], _∷_, _++_}
 use native.Mathlib.Omega.{arith}
-use Rattle.machine.specs.Machine.{event}
-use Rattle.machine.specs.Examples.{H, full}
-use Rattle.grammar.specs.Grammar.{blank, texted, headed, lowbyte, nil, absent, flat, texttoken, Header, comment, document, done, then, a-comment, Derives}
+use Rattle.machine.specs.Machine.{event, full}
+use Rattle.machine.specs.Examples.{H}
+use Rattle.grammar.specs.Grammar.{beforeHeader, pastText, pastHeader, lowbyte, nil, omitted, flat, texttoken, HeaderBytes, comment, document, done, then, a-comment, Derives}
 
 -- H, then some bytes
-header : (more : List ℕ) → Header (H ++ more) 0 1
+header : (more : List ℕ) → HeaderBytes (H ++ more) 0 1
 header more =
     record {
       signature = record { inside = omega arith; is = refl };
@@ -26,8 +26,8 @@ pub header-derived : Derives H full 1 (record { names = []; qnames = []; events 
 header-derived =
     record {
       deep = flat;
-      end = headed blank 1;
-      derived = document (header []) absent nil absent done;
+      end = pastHeader beforeHeader 1;
+      derived = document (header []) omitted nil omitted done;
       whole = refl;
       rows-are = refl;
       not-long = omega arith;
@@ -47,13 +47,13 @@ pub row-derived : Derives commented full 1 (record { names = []; qnames = []; ev
 row-derived =
     record {
       deep = flat;
-      end = texted (headed blank 1) 0xF3 7 0;
+      end = pastText (pastHeader beforeHeader 1) 0xF3 7 0;
       derived =
-          document (header (0xF3 ∷ 0x00 ∷ [])) absent nil absent
+          document (header (0xF3 ∷ 0x00 ∷ [])) omitted nil omitted
           (then
           (a-comment
           (comment
-          (texttoken {s = headed blank 1} (record { inside = omega arith; is = refl })
+          (texttoken {s = pastHeader beforeHeader 1} (record { inside = omega arith; is = refl })
           (record { length32 = record { spelled = lowbyte {p = 6} (record { inside = omega arith; is = refl }) (omega arith); small = omega arith }; there = omega arith }))))
           done);
       whole = refl;

@@ -16,7 +16,7 @@ use Rattle.scan.specs.declared.Step.{Step}
 use Rattle.scan.specs.declared.Step.the-variants as step
 use Rattle.machine.specs.Machine.{Scope, State, elementsIn, apply, started}
 use Rattle.machine.proofs.Goes.{Goes}
-use Rattle.grammar.specs.Grammar.{Point, blank, Depth, Header, Document}
+use Rattle.grammar.specs.Grammar.{Point, beforeHeader, Depth, HeaderBytes, Document}
 use Rattle.grammar.proofs.Steps.{stateOf, Fits, look, Path, none, by}
 use Rattle.grammar.proofs.Complete.{reads}
 
@@ -47,7 +47,7 @@ module _ (opened : ℕ → List Scope → ℕ) (nested : List Scope → ℕ) (do
 -- where it ends
 pub record Reaches (opened : ℕ → List Scope → ℕ) (nested : List Scope → ℕ) (doc : List ℕ) (room : Room) (version : ℕ) (u : Point) : Type 0 where
   pub last : Mode
-  pub header : Header doc 0 version
+  pub header : HeaderBytes doc 0 version
   pub path : Path opened nested doc room (started version 5) (stateOf u last 0 [])
   pub stop : step.Stop accepted (length doc) ≡ stepAt doc (look opened nested doc room (stateOf u last 0 [])) room
 
@@ -62,7 +62,7 @@ allOpen e os = elementsIn os + e
 abbrev pub allNested : List Scope → ℕ
 allNested os = length os
 
-pub limited : (doc : List ℕ) (room : Room) {d : Depth} {version : ℕ} {u : Point} → Document doc d version blank u → u .at ≡ length doc → d .elements ≤ 64 → d .nested ≤ 8
+pub limited : (doc : List ℕ) (room : Room) {d : Depth} {version : ℕ} {u : Point} → Document doc d version beforeHeader u → u .at ≡ length doc → d .elements ≤ 64 → d .nested ≤ 8
     → Fits room (stateOf u mode.Content 0 []) → Reaches allOpen allNested doc room version u
 limited doc room {d} {version} {u} x l a b f =
     let r = reads allOpen allNested Fit
@@ -91,7 +91,7 @@ some-few : (os : List Scope) → someNested os < 8
 some-few [] = omega arith
 some-few (o ∷ os) = omega arith
 
-pub unlimited : (doc : List ℕ) (room : Room) {d : Depth} {version : ℕ} {u : Point} → Document doc d version blank u → u .at ≡ length doc
+pub unlimited : (doc : List ℕ) (room : Room) {d : Depth} {version : ℕ} {u : Point} → Document doc d version beforeHeader u → u .at ≡ length doc
     → Fits room (stateOf u mode.Content 0 []) → Reaches noneOpen someNested doc room version u
 unlimited doc room {u = u} x l f =
     let r = reads noneOpen someNested (λ d e os. Unit) (λ d n e os h. tt) (λ d n e os h. tt) (λ d e os h. (omega arith, tt)) (λ d o os h. (some-few os, tt))

@@ -28,7 +28,7 @@ use Rattle.machine.proofs.Refusals.{header-refused}
 use Rattle.machine.proofs.Found as found
 use Rattle.machine.proofs.Found.{Found, found-step}
 use Rattle.machine.proofs.Readings.{accepted-ends}
-use Rattle.grammar.specs.Grammar.{Point, Rows, rowsAt, blank, Header, Derives, rowsIn, Accepts, eventsDerived}
+use Rattle.grammar.specs.Grammar.{Point, Rows, rowsAt, beforeHeader, HeaderBytes, Derives, rowsIn, Accepts, eventsDerived}
 use Rattle.grammar.proofs.Leaves.{header-found, header-derived}
 use Rattle.grammar.proofs.Rest.{wholly, ending}
 use Rattle.grammar.proofs.Sound.{pointOf, Left, sound}
@@ -78,14 +78,14 @@ module _ (doc : List ℕ) (room : Room) where
   ended f [] o d e c l = rw (o, e) (ending doc (f .mode) (pointOf f) c l)
   ended f (p ∷ os) o d e c l = absurd (let q : ⊥ = omega arith in q)
 
-  derived-by : (version : ℕ) → length doc ≤ longest → Header doc 0 version → (r : Result) → Stopped doc room version (started version 5) r → r .number ≡ 0
+  derived-by : (version : ℕ) → length doc ≤ longest → HeaderBytes doc 0 version → (r : Result) → Stopped doc room version (started version 5) r → r .number ≡ 0
       → Derives doc room (r .version) (rowsIn (r .final))
   derived-by version l h r w e =
       let f = r .final in
       let n = accepted-ends w e in
       let a = n .past in
       let b = w .within in
-      let x = wholly doc {s = blank} h (sound doc (w .trace) (ended f (f .outer) refl (n .depth-none) (n .elements-none) (n .at-root) (omega arith))) in
+      let x = wholly doc {s = beforeHeader} h (sound doc (w .trace) (ended f (f .outer) refl (n .depth-none) (n .elements-none) (n .at-root) (omega arith))) in
       let k = all-fit (w .trace) in
       rw (w .version-is)
       (record {

@@ -19,17 +19,17 @@ use Rattle.number.specs.Number.{NumberFront, spelled, unended, cut, after, fron
 use Rattle.number.specs.Number as numbers
 use Rattle.number.specs.declared.Number as declared
 use Rattle.number.specs.declared.Number.the-variants as number
-use Rattle.value.specs.Fields.{textAfter, textAt}
+use Rattle.value.specs.Fields.{textJudged, textAt}
 use Rattle.value.specs.declared.Text.{Text}
 use Rattle.value.specs.declared.Text.the-variants as text
-use Rattle.fields.specs.Fields.{nameAfter, nameAt, qnameAfter, qnameAt, headerJudged, headerAt}
+use Rattle.fields.specs.Fields.{nameJudged, nameAt, qnameJudged, qnameAt, headerJudged, headerAt}
 use Rattle.fields.specs.declared.Name as names
 use Rattle.fields.specs.declared.Name.the-variants as name
 use Rattle.fields.specs.declared.Qname as qnames
 use Rattle.fields.specs.declared.Qname.the-variants as qname
 use Rattle.fields.specs.declared.Header as headers
 use Rattle.fields.specs.declared.Header.the-variants as header
-use Rattle.grammar.specs.Grammar.{Point, Byte, Digits, lowbyte, highbyte, Number, TextData, Name, Qname, Header}
+use Rattle.grammar.specs.Grammar.{Point, Byte, Digits, lowbyte, highbyte, MultiByte, TextData, NameReference, QnameReference, HeaderBytes}
 
 module _ (doc : List ℕ) where
   -- ---- numbers
@@ -74,7 +74,7 @@ module _ (doc : List ℕ) where
       record { size = suc (r .size); front-of = rw (drop-cons doc p 0 (e .inside), e .is, le-ltb _ _ h, ← add-one p, r .front-of); ends = omega arith }
 
   abbrev pub NumberIs : ℕ → ℕ → declared.Number → Type 0
-  NumberIs most p (number.Is value next) = Number doc most p value next
+  NumberIs most p (number.Is value next) = MultiByte doc most p value next
   NumberIs most p (number.Refused n place) = Unit
 
   judged-is : (most p : ℕ) (f : NumberFront) → FrontIs most p f → NumberIs most p (numbers.numberJudged doc p f)
@@ -87,10 +87,10 @@ module _ (doc : List ℕ) where
   unfolding numberAt
   number-is most p = judged-is most p (front most (drop p doc)) (front-is most p)
 
-  pub number-found : (most p : ℕ) {value next : ℕ} → numberAt most doc p ≡ number.Is value next → Number doc most p value next
+  pub number-found : (most p : ℕ) {value next : ℕ} → numberAt most doc p ≡ number.Is value next → MultiByte doc most p value next
   number-found most p e = subst (NumberIs most p) e (number-is most p)
 
-  pub number-derived : {most p value next : ℕ} → Number doc most p value next → numberAt most doc p ≡ number.Is value next
+  pub number-derived : {most p value next : ℕ} → MultiByte doc most p value next → numberAt most doc p ≡ number.Is value next
   unfolding numberAt
   number-derived n =
       let r = spells (n .spelled) in
@@ -102,7 +102,7 @@ module _ (doc : List ℕ) where
   TextIs p (text.Is place units) = TextData doc p place units
   TextIs p (text.Refused n place) = Unit
 
-  text-after : (p : ℕ) (n : declared.Number) → NumberIs 5 p n → TextIs p (textAfter doc n)
+  text-after : (p : ℕ) (n : declared.Number) → NumberIs 5 p n → TextIs p (textJudged doc n)
   text-after p (number.Is units next) d =
       cond-if (TextIs p) (leb (next + 2 * units) (length doc)) _ _ (λ t. record { length32 = d; there = leb-true _ _ t }) (λ t. tt)
   text-after p (number.Refused n place) d = tt
@@ -121,10 +121,10 @@ module _ (doc : List ℕ) where
   -- ---- names and qnames
 
   abbrev NameIs : Point → ℕ → names.Name → Type 0
-  NameIs s p (name.Is k next) = Name doc s p (k .0) next
+  NameIs s p (name.Is k next) = NameReference doc s p (k .0) next
   NameIs s p (name.Refused n place) = Unit
 
-  name-after : (s : Point) (p : ℕ) (n : declared.Number) → NumberIs 5 p n → NameIs s p (nameAfter (length (s .known)) p n)
+  name-after : (s : Point) (p : ℕ) (n : declared.Number) → NumberIs 5 p n → NameIs s p (nameJudged (length (s .known)) p n)
   name-after s p (number.Is value next) d =
       cond-if (NameIs s p) (leb value (length (s .known))) _ _ (λ t. record { mb32 = d; defined = leb-true _ _ t }) (λ t. tt)
   name-after s p (number.Refused n place) d = tt
@@ -133,18 +133,18 @@ module _ (doc : List ℕ) where
   unfolding nameAt
   name-is s p = name-after s p (numberAt 5 doc p) (number-is 5 p)
 
-  pub name-found : (s : Point) (p : ℕ) {k : NameNumber} {next : ℕ} → nameAt (length (s .known)) doc p ≡ name.Is k next → Name doc s p (k .0) next
+  pub name-found : (s : Point) (p : ℕ) {k : NameNumber} {next : ℕ} → nameAt (length (s .known)) doc p ≡ name.Is k next → NameReference doc s p (k .0) next
   name-found s p e = subst (NameIs s p) e (name-is s p)
 
-  pub name-derived : (s : Point) {p k next : ℕ} → Name doc s p k next → nameAt (length (s .known)) doc p ≡ name.Is (record { 0 = k }) next
+  pub name-derived : (s : Point) {p k next : ℕ} → NameReference doc s p k next → nameAt (length (s .known)) doc p ≡ name.Is (record { 0 = k }) next
   unfolding nameAt
   name-derived s d = rw (number-derived (d .mb32), le-leb _ _ (d .defined))
 
   abbrev QnameIs : Point → ℕ → qnames.Qname → Type 0
-  QnameIs s p (qname.Is k next) = Qname doc s p (k .0) next
+  QnameIs s p (qname.Is k next) = QnameReference doc s p (k .0) next
   QnameIs s p (qname.Refused n place) = Unit
 
-  qname-after : (s : Point) (p : ℕ) (n : declared.Number) → NumberIs 5 p n → QnameIs s p (qnameAfter (length (s .qknown)) p n)
+  qname-after : (s : Point) (p : ℕ) (n : declared.Number) → NumberIs 5 p n → QnameIs s p (qnameJudged (length (s .qknown)) p n)
   qname-after s p (number.Is value next) d =
       cond-if (QnameIs s p) (leb 1 value && leb value (length (s .qknown))) _ _
       (λ t. record { mb32 = d; positive = leb-true _ _ (and-left (leb 1 value) _ t); defined = leb-true _ _ (and-right (leb 1 value) _ t) }) (λ t. tt)
@@ -154,16 +154,16 @@ module _ (doc : List ℕ) where
   unfolding qnameAt
   qname-is s p = qname-after s p (numberAt 5 doc p) (number-is 5 p)
 
-  pub qname-found : (s : Point) (p : ℕ) {k : QnameNumber} {next : ℕ} → qnameAt (length (s .qknown)) doc p ≡ qname.Is k next → Qname doc s p (k .0) next
+  pub qname-found : (s : Point) (p : ℕ) {k : QnameNumber} {next : ℕ} → qnameAt (length (s .qknown)) doc p ≡ qname.Is k next → QnameReference doc s p (k .0) next
   qname-found s p e = subst (QnameIs s p) e (qname-is s p)
 
-  pub qname-derived : (s : Point) {p k next : ℕ} → Qname doc s p k next → qnameAt (length (s .qknown)) doc p ≡ qname.Is (record { 0 = k }) next
+  pub qname-derived : (s : Point) {p k next : ℕ} → QnameReference doc s p k next → qnameAt (length (s .qknown)) doc p ≡ qname.Is (record { 0 = k }) next
   unfolding qnameAt
   qname-derived s d = rw (number-derived (d .mb32), le-leb _ _ (d .positive), le-leb _ _ (d .defined))
 
   -- ---- headers
 
-  -- a byte that is headerJudged right lies between the two bounds
+  -- a byte that is judged right lies between the two bounds
   judged-if : (P : headers.Header → Type 0) → ((n p : ℕ) → P (header.Refused n p)) → (at first last : ℕ) (on : headers.Header)
       → (at < length doc → first ≤ getD doc at 0 → getD doc at 0 ≤ last → P on) → P (headerJudged doc at first last on)
   judged-if P r at first last on f =
@@ -173,7 +173,7 @@ module _ (doc : List ℕ) where
       (λ u. r _ _)) (λ t. r _ _)
 
   abbrev HeaderIs : ℕ → headers.Header → Type 0
-  HeaderIs p (header.Is version next) = Header doc p version × (next ≡ p + 5)
+  HeaderIs p (header.Is version next) = HeaderBytes doc p version × (next ≡ p + 5)
   HeaderIs p (header.Refused n place) = Unit
 
   header-is : (p : ℕ) → HeaderIs p (headerAt doc p)
@@ -196,10 +196,10 @@ module _ (doc : List ℕ) where
         refl,
       )
 
-  pub header-found : (p : ℕ) {version next : ℕ} → headerAt doc p ≡ header.Is version next → Header doc p version × (next ≡ p + 5)
+  pub header-found : (p : ℕ) {version next : ℕ} → headerAt doc p ≡ header.Is version next → HeaderBytes doc p version × (next ≡ p + 5)
   header-found p e = subst (HeaderIs p) e (header-is p)
 
-  pub header-derived : {p version : ℕ} → Header doc p version → headerAt doc p ≡ header.Is version (p + 5)
+  pub header-derived : {p version : ℕ} → HeaderBytes doc p version → headerAt doc p ≡ header.Is version (p + 5)
   unfolding headerAt
   header-derived h =
       rw (lt-ltb _ _ (h .signature .inside), h .signature .is, lt-ltb _ _ (h .signature′ .inside), h .signature′ .is, lt-ltb _ _ (h .version-is .inside), h .version-is .is, le-leb _ _ (h .version-low), le-leb _ _ (h .version-high), lt-ltb _ _ (h .encoding .inside), h .encoding .is, lt-ltb _ _ (h .encoding′ .inside), h .encoding′ .is)

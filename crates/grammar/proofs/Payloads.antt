@@ -20,11 +20,11 @@ use Rattle.number.specs.Number.{numberAt}
 use Rattle.number.specs.declared.Number as numbers
 use Rattle.number.specs.declared.Number.the-variants as number
 use Rattle.rules.specs.Rules.{decimalSize, decimalLawful, timeBytes, dayWithin, zoneLawful, timeLawful, zonedLawful, lawful}
-use Rattle.value.specs.Fields.{needed, textAfter, textPayload, textAt, blobAfter, decimalAfter, timeField, qnamePayload, extentAt, ruled, fieldAt}
+use Rattle.value.specs.Fields.{needed, textJudged, textPayload, textAt, blobAfter, decimalAfter, timeField, qnamePayload, extentAt, ruled, fieldAt}
 use Rattle.value.specs.declared.Text as texts
 use Rattle.value.specs.declared.Field.{Field}
 use Rattle.value.specs.declared.Field.the-variants as field
-use Rattle.grammar.specs.Grammar.{Byte, Number, DecimalSize, four, eight, twelve, sixteen, SqlTime, SqlDate, SqlTimeZone, Payload, nothing, bytes, textdata, blob, codepagetext, decimal, stamp, sqldate, sqldatetime2, sqldatetimeoffset}
+use Rattle.grammar.specs.Grammar.{Byte, MultiByte, DecimalSize, four, eight, twelve, sixteen, SqlTime, SqlDate, SqlTimeZone, PayloadAt, nothing, bytes, textdata, blob, codepagetext, decimal, stamp, sqldate, sqldatetime2, sqldatetimeoffset}
 use Rattle.grammar.specs.Grammar as payloads
 use Rattle.grammar.proofs.Leaves.{NumberIs, number-is, number-derived}
 use Rattle.grammar.proofs.Rest.{clash}
@@ -103,13 +103,13 @@ module _ (doc : List ℕ) where
   -- ---- found: derived
 
   abbrev PayloadIs : Shape → ℕ → Field → Type 0
-  PayloadIs h at (field.Payload place size) = Payload doc h at place size
+  PayloadIs h at (field.Payload place size) = PayloadAt doc h at place size
   PayloadIs h at (field.Reference n next) = Unit
   PayloadIs h at (field.Refused n place) = Unit
 
   -- before the rules on its bytes
   abbrev Before : Shape → ℕ → Field → Type 0
-  Before h at (field.Payload place size) = lawful h (part doc place size) ≡ true → Payload doc h at place size
+  Before h at (field.Payload place size) = lawful h (part doc place size) ≡ true → PayloadAt doc h at place size
   Before h at (field.Reference n next) = Unit
   Before h at (field.Refused n place) = Unit
 
@@ -118,11 +118,11 @@ module _ (doc : List ℕ) where
   ruled-is h at (field.Reference n next) k = tt
   ruled-is h at (field.Refused n place) k = tt
 
-  needed-is : (h : Shape) (at place size : ℕ) → (place + size ≤ length doc → lawful h (part doc place size) ≡ true → Payload doc h at place size) → Before h at (needed doc place size)
+  needed-is : (h : Shape) (at place size : ℕ) → (place + size ≤ length doc → lawful h (part doc place size) ≡ true → PayloadAt doc h at place size) → Before h at (needed doc place size)
   unfolding needed
   needed-is h at place size k = cond-if (Before h at) (leb (place + size) (length doc)) _ _ (λ t. k (leb-true _ _ t)) (λ t. tt)
 
-  text-is : (most at : ℕ) (n : numbers.Number) → NumberIs doc most (at + 1) n → Before (shape.Text most) at (textPayload (textAfter doc n))
+  text-is : (most at : ℕ) (n : numbers.Number) → NumberIs doc most (at + 1) n → Before (shape.Text most) at (textPayload (textJudged doc n))
   text-is most at (number.Is units next) d =
       cond-if (λ (t : texts.Text). Before (shape.Text most) at (textPayload t)) (leb (next + 2 * units) (length doc)) _ _
       (λ t l. textdata d (leb-true _ _ t)) (λ t. tt)
@@ -144,7 +144,7 @@ module _ (doc : List ℕ) where
       cond-if (Before shape.Decimal at) (decimalSize size) _ _
       (λ t. needed-is shape.Decimal at next size (λ h l. go h t l)) (λ t. tt)
     where
-      go : next + size ≤ length doc → decimalSize size ≡ true → lawful shape.Decimal (part doc next size) ≡ true → Payload doc shape.Decimal at next size
+      go : next + size ≤ length doc → decimalSize size ≡ true → lawful shape.Decimal (part doc next size) ≡ true → PayloadAt doc shape.Decimal at next size
       go h t l =
           let p = part doc next size in
           let z = size-decimal (decimal-size size t) in
@@ -161,7 +161,7 @@ module _ (doc : List ℕ) where
   decimal-is at (number.Refused n place) d = tt
 
   time-is : (h : Shape) (at more : ℕ) → (at + 1 < length doc → getD doc (at + 1) 0 ≤ 7 → (at + 1) + (1 + timeBytes (getD doc (at + 1) 0) + more) ≤ length doc
-      → lawful h (part doc (at + 1) (1 + timeBytes (getD doc (at + 1) 0) + more)) ≡ true → Payload doc h at (at + 1) (1 + timeBytes (getD doc (at + 1) 0) + more))
+      → lawful h (part doc (at + 1) (1 + timeBytes (getD doc (at + 1) 0) + more)) ≡ true → PayloadAt doc h at (at + 1) (1 + timeBytes (getD doc (at + 1) 0) + more))
       → Before h at (timeField doc at more)
   unfolding timeField
   time-is h at more k =
@@ -195,12 +195,12 @@ module _ (doc : List ℕ) where
       (and-right (leb (getD doc (at + 1) 0) 7 && eqb (length (part doc (at + 1) (time + more))) (time + more)) _ k)
 
   time-lawful : (at first last : ℕ) → at + 1 < length doc → getD doc (at + 1) 0 ≤ 7 → (time : ℕ) → 1 + timeBytes (getD doc (at + 1) 0) ≡ time
-      → (at + 1) + (time + 3) ≤ length doc → lawful (shape.Time first last) (part doc (at + 1) (time + 3)) ≡ true → Payload doc (shape.Time first last) at (at + 1) (time + 3)
+      → (at + 1) + (time + 3) ≤ length doc → lawful (shape.Time first last) (part doc (at + 1) (time + 3)) ≡ true → PayloadAt doc (shape.Time first last) at (at + 1) (time + 3)
   unfolding lawful
   time-lawful at first last i h time e k l = sqldatetime2 (rw e at (time-of (at + 1) i h)) k (dated at time 3 first last (omega arith) e l)
 
   zoned-lawful : (at first last : ℕ) → at + 1 < length doc → getD doc (at + 1) 0 ≤ 7 → (time : ℕ) → 1 + timeBytes (getD doc (at + 1) 0) ≡ time
-      → (at + 1) + (time + 5) ≤ length doc → lawful (shape.ZonedTime first last) (part doc (at + 1) (time + 5)) ≡ true → Payload doc (shape.ZonedTime first last) at (at + 1) (time + 5)
+      → (at + 1) + (time + 5) ≤ length doc → lawful (shape.ZonedTime first last) (part doc (at + 1) (time + 5)) ≡ true → PayloadAt doc (shape.ZonedTime first last) at (at + 1) (time + 5)
   unfolding lawful zonedLawful
   zoned-lawful at first last i h time e k l =
       let p = part doc (at + 1) (time + 5) in
@@ -209,13 +209,13 @@ module _ (doc : List ℕ) where
       sqldatetimeoffset (rw e at (time-of (at + 1) i h)) k (dated at time 5 first last (omega arith) e (and-left (timeLawful 5 first last p) _ l))
       (zone-of ((at + 1) + (time + 3)) (part-part doc (at + 1) (time + 5) (time + 3) 2 (omega arith)) z)
 
-  stamp-lawful : (at low : ℕ) → (at + 1) + 8 ≤ length doc → lawful (shape.Stamp low) (part doc (at + 1) 8) ≡ true → Payload doc (shape.Stamp low) at (at + 1) 8
+  stamp-lawful : (at low : ℕ) → (at + 1) + 8 ≤ length doc → lawful (shape.Stamp low) (part doc (at + 1) 8) ≡ true → PayloadAt doc (shape.Stamp low) at (at + 1) 8
   unfolding lawful
   stamp-lawful at low h l =
       let q = eqb-true _ _ (and-right (eqb (length (part doc (at + 1) 8)) 8) _ l) in
       stamp h (sym (ap (λ (k : ℕ). k % 4) (part-first doc (at + 1) 8 (omega arith))) ∙ q)
 
-  date-lawful : (at first last : ℕ) → (at + 1) + 3 ≤ length doc → lawful (shape.Date first last) (part doc (at + 1) 3) ≡ true → Payload doc (shape.Date first last) at (at + 1) 3
+  date-lawful : (at first last : ℕ) → (at + 1) + 3 ≤ length doc → lawful (shape.Date first last) (part doc (at + 1) 3) ≡ true → PayloadAt doc (shape.Date first last) at (at + 1) 3
   unfolding lawful
   date-lawful at first last h l = sqldate h (day-of first last (at + 1) refl (and-right (eqb (length (part doc (at + 1) 3)) 3) _ l))
 
@@ -237,7 +237,7 @@ module _ (doc : List ℕ) where
   extent-is (shape.Time first last) at = time-is (shape.Time first last) at 3 (λ i h k l. time-lawful at first last i h _ refl k l)
   extent-is (shape.ZonedTime first last) at = time-is (shape.ZonedTime first last) at 5 (λ i h k l. zoned-lawful at first last i h _ refl k l)
 
-  pub payload-found : (h : Shape) (at : ℕ) {place size : ℕ} → fieldAt h doc at ≡ field.Payload place size → Payload doc h at place size
+  pub payload-found : (h : Shape) (at : ℕ) {place size : ℕ} → fieldAt h doc at ≡ field.Payload place size → PayloadAt doc h at place size
   unfolding fieldAt
   payload-found h at e = subst (PayloadIs h at) e (ruled-is h at (extentAt h doc at) (extent-is h at))
 
@@ -263,7 +263,7 @@ module _ (doc : List ℕ) where
       go (inl h) = rw (le-leb _ _ h)
       go (inr h) = rw (le-leb _ _ h) (or-right (leb (little (part doc place 2)) 840))
 
-  pub payload-derived : {h : Shape} {at place size : ℕ} → Payload doc h at place size → fieldAt h doc at ≡ field.Payload place size
+  pub payload-derived : {h : Shape} {at place size : ℕ} → PayloadAt doc h at place size → fieldAt h doc at ≡ field.Payload place size
   unfolding fieldAt extentAt needed lawful textAt decimalLawful dayWithin timeField zonedLawful
   payload-derived (nothing {at = at} h) = rw (le-leb _ _ h, part-length doc (at + 1) 0 h)
   payload-derived (bytes {at = at} {size = size} h) = rw (le-leb _ _ h, part-length doc (at + 1) size h, eq-eqb size size refl)

@@ -6,11 +6,11 @@ use mathlib.Core.Bool.{true, _||_}
 use mathlib.Core.List.{List, [], _∷_, _++_}
 use native.Mathlib.Omega.{arith}
 use lib.ListN.{length}
-use Rattle.modes.specs.Modes.{content, listing, inDeclaration, is, afterMetadata, afterMisc, afterValue}
+use Rattle.modes.specs.Modes.{content, inAttributes, inDeclaration, is, afterMetadata, afterMisc, afterValue}
 use Rattle.modes.specs.declared.Mode.{Mode}
 use Rattle.modes.specs.declared.Mode.the-variants as mode
 use Rattle.machine.specs.Machine.{event, Scope, scope, elementsIn}
-use Rattle.grammar.specs.Grammar.{Point, point, referred, ended, headed, nesting, Byte, Star, nil, cons, Optional, absent, present, Depth, flat, Qname, TextToken, Header, Standalone, XmlDecl, xmldecl, doctypedecl, Metadata, Misc, misc-metadata, cdsect, AtomicValue, Part, part-metadata, part-value, Attribute, attribute, Attributes, attributes, Typed, typed, Document, document, Content, done, then, Item, an-element, a-cdsect, an-atomicvalue, a-metadata, a-nestedbinaryxml, element, nestedbinaryxml}
+use Rattle.grammar.specs.Grammar.{Point, point, pastQname, pastEnd, pastHeader, pastNest, Byte, Star, nil, cons, Optional, omitted, present, Depth, flat, QnameReference, TextToken, HeaderBytes, Standalone, XmlDecl, xmldecl, doctypedecl, Metadata, Misc, misc-metadata, cdsect, AtomicValue, Part, part-metadata, part-value, Attribute, attribute, Attributes, attributes, Typed, typed, Document, document, Content, done, then, Item, an-element, a-cdsect, an-atomicvalue, a-metadata, a-nestedbinaryxml, element, nestedbinaryxml}
 
 -- two different constructors are equal: anything follows
 pub clash : {A : Type 0} → _≡_ {A = ℕ} 0 1 → A
@@ -32,7 +32,7 @@ module _ (doc : List ℕ) where
   -- from the end of the innermost content on
   pub data Tail : ℕ → List Scope → Point → Point → Type 0 where
     root : {e : ℕ} {s : Point} → e ≡ 0 → s .at ≡ length doc → Tail e [] s s
-    close : {f e : ℕ} {os : List Scope} {m : Depth} {s t u : Point} → f ≡ e + 1 → Byte doc (s .at) 0xF7 → Content doc m (ended s 0xF7) t → Few e os m
+    close : {f e : ℕ} {os : List Scope} {m : Depth} {s t u : Point} → f ≡ e + 1 → Byte doc (s .at) 0xF7 → Content doc m (pastEnd s 0xF7) t → Few e os m
         → Tail e os t u → Tail f os s u
     leave : {f : ℕ} {o : Scope} {os : List Scope} {m : Depth} {s t u : Point} → f ≡ 0 → Byte doc (s .at) 0xEB → Content doc m (back o s) t → Few (o .elements) os m
         → Tail (o .elements) os t u → Tail f (o ∷ os) s u
@@ -44,7 +44,7 @@ module _ (doc : List ℕ) where
   pub data Rest (e : ℕ) (os : List Scope) : Mode → Point → Point → Type 0 where
     of-content : {s u : Point} → Body e os s u → Rest e os mode.Content s u
     of-tag : {s a u : Point} → Optional (Attributes doc) s a → Body e os a u → Rest e os mode.Tag s u
-    of-attributes : {s v b u : Point} → Star (Part doc) s v → Star (Attribute doc) v b → Byte doc (b .at) 0xF5 → Body e os (ended b 0xF5) u
+    of-attributes : {s v b u : Point} → Star (Part doc) s v → Star (Attribute doc) v b → Byte doc (b .at) 0xF5 → Body e os (pastEnd b 0xF5) u
         → Rest e os mode.Attributes s u
     of-first : {s a b c u : Point} → Optional (XmlDecl doc) s a → Star (Misc doc) a b → Optional (Typed doc) b c → Body e os c u → Rest e os mode.First s u
     of-prolog : {s b c u : Point} → Star (Misc doc) s b → Optional (Typed doc) b c → Body e os c u → Rest e os mode.Prolog s u
@@ -52,7 +52,7 @@ module _ (doc : List ℕ) where
         → Rest e os mode.AfterDocType s u
     of-system : {s b c u : Point} → Optional (TextToken doc 0xFA) s b → Optional (TextToken doc 0xF9) b c → Body e os c u → Rest e os mode.AfterSystem s u
     of-public : {s c u : Point} → Optional (TextToken doc 0xF9) s c → Body e os c u → Rest e os mode.AfterPublic s u
-    of-cdata : {s t u : Point} → Star (TextToken doc 0xF2) s t → Byte doc (t .at) 0xF1 → Body e os (ended t 0xF1) u → Rest e os mode.Cdata s u
+    of-cdata : {s t u : Point} → Star (TextToken doc 0xF2) s t → Byte doc (t .at) 0xF1 → Body e os (pastEnd t 0xF1) u → Rest e os mode.Cdata s u
     of-xmldecl : {s a b c d u : Point} → Optional (TextToken doc 0xFD) s a → Standalone doc a b → Star (Misc doc) b c → Optional (Typed doc) c d → Body e os d u
         → Rest e os mode.AfterXmlDecl s u
     of-encoding : {s b c d u : Point} → Standalone doc s b → Star (Misc doc) b c → Optional (Typed doc) c d → Body e os d u → Rest e os mode.AfterEncoding s u
@@ -74,12 +74,12 @@ module _ (doc : List ℕ) where
     -- content may begin wherever it may stand
     pub before : (m : Mode) {s u : Point} → content m ≡ true → Body e os s u → Rest e os m s u
     before mode.Content c b = of-content b
-    before mode.Tag c b = of-tag absent b
-    before mode.First c b = of-first absent nil absent b
-    before mode.Prolog c b = of-prolog nil absent b
-    before mode.AfterDocType c b = of-doctype absent absent absent b
-    before mode.AfterSystem c b = of-system absent absent b
-    before mode.AfterPublic c b = of-public absent b
+    before mode.Tag c b = of-tag omitted b
+    before mode.First c b = of-first omitted nil omitted b
+    before mode.Prolog c b = of-prolog nil omitted b
+    before mode.AfterDocType c b = of-doctype omitted omitted omitted b
+    before mode.AfterSystem c b = of-system omitted omitted b
+    before mode.AfterPublic c b = of-public omitted b
     before mode.Attributes c b = clash (cc)
     before mode.Cdata c b = clash (cc)
     before mode.AfterXmlDecl c b = clash (cc)
@@ -94,13 +94,13 @@ module _ (doc : List ℕ) where
 
     -- metadata, in a tag: of the first attribute if there is one, else of the content
     in-tag : {s t a u : Point} → Metadata doc s t → Optional (Attributes doc) t a → Body e os a u → Rest e os mode.Tag s u
-    in-tag x absent b = of-tag absent (leaf (a-metadata x) b)
+    in-tag x omitted b = of-tag omitted (leaf (a-metadata x) b)
     in-tag x (present (attributes (attribute w y n p) z f)) b = of-tag (present (attributes (attribute (cons x w) y n p) z f)) b
 
-    pub metadata : (m : Mode) {s t u : Point} → (content m || listing m) ≡ true → Metadata doc s t → Rest e os (afterMetadata m) t u → Rest e os m s u
+    pub metadata : (m : Mode) {s t u : Point} → (content m || inAttributes m) ≡ true → Metadata doc s t → Rest e os (afterMetadata m) t u → Rest e os m s u
     metadata mode.Content c x r = item mode.Content refl (a-metadata x) r
     metadata mode.Tag c x (of-tag a b) = in-tag x a b
-    metadata mode.First c x (of-prolog w t b) = of-first absent (cons (misc-metadata x) w) t b
+    metadata mode.First c x (of-prolog w t b) = of-first omitted (cons (misc-metadata x) w) t b
     metadata mode.Prolog c x (of-prolog w t b) = of-prolog (cons (misc-metadata x) w) t b
     metadata mode.AfterDocType c x r = item mode.AfterDocType refl (a-metadata x) r
     metadata mode.AfterSystem c x r = item mode.AfterSystem refl (a-metadata x) r
@@ -114,7 +114,7 @@ module _ (doc : List ℕ) where
     pub misc : (m : Mode) {s t u : Point} → content m ≡ true → Misc doc s t → Item doc flat s t → Rest e os (afterMisc m) t u → Rest e os m s u
     misc mode.Content c x i r = item mode.Content refl i r
     misc mode.Tag c x i r = item mode.Tag refl i r
-    misc mode.First c x i (of-prolog w t b) = of-first absent (cons x w) t b
+    misc mode.First c x i (of-prolog w t b) = of-first omitted (cons x w) t b
     misc mode.Prolog c x i (of-prolog w t b) = of-prolog (cons x w) t b
     misc mode.AfterDocType c x i r = item mode.AfterDocType refl i r
     misc mode.AfterSystem c x i r = item mode.AfterSystem refl i r
@@ -125,7 +125,7 @@ module _ (doc : List ℕ) where
     misc mode.AfterEncoding c x i r = clash (cc)
 
     -- a value, also of an attribute
-    pub value : (m : Mode) {s t u : Point} → (content m || listing m) ≡ true → AtomicValue doc s t → Rest e os (afterValue m) t u → Rest e os m s u
+    pub value : (m : Mode) {s t u : Point} → (content m || inAttributes m) ≡ true → AtomicValue doc s t → Rest e os (afterValue m) t u → Rest e os m s u
     value mode.Content c x r = item mode.Content refl (an-atomicvalue x) r
     value mode.Tag c x r = item mode.Tag refl (an-atomicvalue x) r
     value mode.First c x r = item mode.First refl (an-atomicvalue x) r
@@ -156,7 +156,7 @@ module _ (doc : List ℕ) where
     encoding x (of-encoding y w t b) = of-xmldecl (present x) y w t b
 
     pub doc-type : (m : Mode) {s t u : Point} → (is m mode.First || is m mode.Prolog) ≡ true → TextToken doc 0xFC s t → Rest e os mode.AfterDocType t u → Rest e os m s u
-    doc-type mode.First c x (of-doctype p q r b) = of-first absent nil (present (typed (doctypedecl x p q r) nil)) b
+    doc-type mode.First c x (of-doctype p q r b) = of-first omitted nil (present (typed (doctypedecl x p q r) nil)) b
     doc-type mode.Prolog c x (of-doctype p q r b) = of-prolog nil (present (typed (doctypedecl x p q r) nil)) b
     doc-type mode.Content c x r = clash (cc)
     doc-type mode.Tag c x r = clash (cc)
@@ -182,7 +182,7 @@ module _ (doc : List ℕ) where
     system mode.AfterEncoding c x r = clash (cc)
 
     pub public : (m : Mode) {s t u : Point} → (is m mode.AfterDocType || is m mode.AfterSystem) ≡ true → TextToken doc 0xFA s t → Rest e os mode.AfterPublic t u → Rest e os m s u
-    public mode.AfterDocType c x (of-public r b) = of-doctype absent (present x) r b
+    public mode.AfterDocType c x (of-public r b) = of-doctype omitted (present x) r b
     public mode.AfterSystem c x (of-public r b) = of-system (present x) r b
     public mode.Content c x r = clash (cc)
     public mode.Tag c x r = clash (cc)
@@ -195,8 +195,8 @@ module _ (doc : List ℕ) where
     public mode.AfterEncoding c x r = clash (cc)
 
     pub subset : (m : Mode) {s t u : Point} → (is m mode.AfterDocType || is m mode.AfterSystem || is m mode.AfterPublic) ≡ true → TextToken doc 0xF9 s t → Rest e os mode.Content t u → Rest e os m s u
-    subset mode.AfterDocType c x r = of-doctype absent absent (present x) (inside r)
-    subset mode.AfterSystem c x r = of-system absent (present x) (inside r)
+    subset mode.AfterDocType c x r = of-doctype omitted omitted (present x) (inside r)
+    subset mode.AfterSystem c x r = of-system omitted (present x) (inside r)
     subset mode.AfterPublic c x r = of-public (present x) (inside r)
     subset mode.Content c x r = clash (cc)
     subset mode.Tag c x r = clash (cc)
@@ -209,7 +209,7 @@ module _ (doc : List ℕ) where
 
     -- either of the two bytes where the standalone byte may stand
     pub standing : (m : Mode) {s t u : Point} → inDeclaration m ≡ true → Standalone doc s t → Rest e os mode.Prolog t u → Rest e os m s u
-    standing mode.AfterXmlDecl c x (of-prolog w t b) = of-xmldecl absent x w t b
+    standing mode.AfterXmlDecl c x (of-prolog w t b) = of-xmldecl omitted x w t b
     standing mode.AfterEncoding c x (of-prolog w t b) = of-encoding x w t b
     standing mode.Content c x r = clash (cc)
     standing mode.Tag c x r = clash (cc)
@@ -241,7 +241,7 @@ module _ (doc : List ℕ) where
     cdata mode.AfterXmlDecl c x r = clash (cc)
     cdata mode.AfterEncoding c x r = clash (cc)
 
-    pub cdata-end : (m : Mode) (s : Point) {u : Point} → is m mode.Cdata ≡ true → Byte doc (s .at) 0xF1 → Rest e os mode.Content (ended s 0xF1) u → Rest e os m s u
+    pub cdata-end : (m : Mode) (s : Point) {u : Point} → is m mode.Cdata ≡ true → Byte doc (s .at) 0xF1 → Rest e os mode.Content (pastEnd s 0xF1) u → Rest e os m s u
     cdata-end mode.Cdata s c x r = of-cdata nil x (inside r)
     cdata-end mode.Content s c x r = clash (cc)
     cdata-end mode.Tag s c x r = clash (cc)
@@ -254,7 +254,7 @@ module _ (doc : List ℕ) where
     cdata-end mode.AfterXmlDecl s c x r = clash (cc)
     cdata-end mode.AfterEncoding s c x r = clash (cc)
 
-    pub att : (m : Mode) (s : Point) {u : Point} {number next : ℕ} → (is m mode.Tag || listing m) ≡ true → Byte doc (s .at) 0xF6 → Qname doc s (s .at + 1) number next → Rest e os mode.Attributes (referred s 0xF6 number next) u → Rest e os m s u
+    pub att : (m : Mode) (s : Point) {u : Point} {number next : ℕ} → (is m mode.Tag || inAttributes m) ≡ true → Byte doc (s .at) 0xF6 → QnameReference doc s (s .at + 1) number next → Rest e os mode.Attributes (pastQname s 0xF6 number next) u → Rest e os m s u
     att mode.Tag s c x n (of-attributes p w f b) = of-tag (present (attributes (attribute nil x n p) w f)) b
     att mode.Attributes s c x n (of-attributes p w f b) = of-attributes nil (cons (attribute nil x n p) w) f b
     att mode.Content s c x n r = clash (cc)
@@ -267,7 +267,7 @@ module _ (doc : List ℕ) where
     att mode.AfterXmlDecl s c x n r = clash (cc)
     att mode.AfterEncoding s c x n r = clash (cc)
 
-    pub att-end : (m : Mode) (s : Point) {u : Point} → listing m ≡ true → Byte doc (s .at) 0xF5 → Rest e os mode.Content (ended s 0xF5) u → Rest e os m s u
+    pub att-end : (m : Mode) (s : Point) {u : Point} → inAttributes m ≡ true → Byte doc (s .at) 0xF5 → Rest e os mode.Content (pastEnd s 0xF5) u → Rest e os m s u
     att-end mode.Attributes s c x r = of-attributes nil nil x (inside r)
     att-end mode.Content s c x r = clash (cc)
     att-end mode.Tag s c x r = clash (cc)
@@ -281,8 +281,8 @@ module _ (doc : List ℕ) where
     att-end mode.AfterEncoding s c x r = clash (cc)
 
   -- ---- elements and nested documents
-  open-body : (e : ℕ) (os : List Scope) (s : Point) {m : Depth} {a t u : Point} {number next : ℕ} → elementsIn os + e < 64 → Byte doc (s .at) 0xF8 → Qname doc s (s .at + 1) number next
-      → Optional (Attributes doc) (referred s 0xF8 number next) a → Content doc m a t → Few (e + 1) os m → Tail (e + 1) os t u → Body e os s u
+  open-body : (e : ℕ) (os : List Scope) (s : Point) {m : Depth} {a t u : Point} {number next : ℕ} → elementsIn os + e < 64 → Byte doc (s .at) 0xF8 → QnameReference doc s (s .at + 1) number next
+      → Optional (Attributes doc) (pastQname s 0xF8 number next) a → Content doc m a t → Few (e + 1) os m → Tail (e + 1) os t u → Body e os s u
   open-body e os s l b n o c f (root z w) = absurd (let q : ⊥ = omega arith in q)
   open-body e os s l b n o c f (leave z x y g t) = absurd (let q : ⊥ = omega arith in q)
   open-body e os s l b n o c f (close {e = e′} z x y g t) =
@@ -292,15 +292,15 @@ module _ (doc : List ℕ) where
       front (an-element (element b n o c x)) (record { elements = omega arith; nested = omega arith }) (body y (rw h at g) (rw h at t))
 
   pub opening : (m : Mode) (e : ℕ) (os : List Scope) (s : Point) {u : Point} {number next : ℕ} → content m ≡ true → elementsIn os + e < 64 → Byte doc (s .at) 0xF8
-      → Qname doc s (s .at + 1) number next → Rest (e + 1) os mode.Tag (referred s 0xF8 number next) u → Rest e os m s u
+      → QnameReference doc s (s .at + 1) number next → Rest (e + 1) os mode.Tag (pastQname s 0xF8 number next) u → Rest e os m s u
   opening m e os s c l b n (of-tag o (body x f t)) = before m c (open-body e os s l b n o x f t)
 
   pub closing : (m : Mode) (e : ℕ) (os : List Scope) (s : Point) {u : Point} → content m ≡ true → 0 < e → Byte doc (s .at) 0xF7
-      → Rest (e - 1) os mode.Content (ended s 0xF7) u → Rest e os m s u
+      → Rest (e - 1) os mode.Content (pastEnd s 0xF7) u → Rest e os m s u
   closing m e os s c l b (of-content (body x f t)) = before m c (body done (flat-few e os) (close (let q : e ≡ (e - 1) + 1 = omega arith in q) b x f t))
 
-  nest-body : (e : ℕ) (os : List Scope) (s : Point) (version : ℕ) {m : Depth} {a b c t u : Point} → length os < 8 → Byte doc (s .at) 0xEC → Header doc (s .at + 1) version
-      → Optional (XmlDecl doc) (headed (nesting s version) version) a → Star (Misc doc) a b → Optional (Typed doc) b c → Content doc m c t
+  nest-body : (e : ℕ) (os : List Scope) (s : Point) (version : ℕ) {m : Depth} {a b c t u : Point} → length os < 8 → Byte doc (s .at) 0xEC → HeaderBytes doc (s .at + 1) version
+      → Optional (XmlDecl doc) (pastHeader (pastNest s version) version) a → Star (Misc doc) a b → Optional (Typed doc) b c → Content doc m c t
       → Few 0 (scope (s .version) (s .known) (s .qknown) e ∷ os) m → Tail 0 (scope (s .version) (s .known) (s .qknown) e ∷ os) t u → Body e os s u
   nest-body e os s version l b h o w y x f (close z k v g t) = absurd (let q : ⊥ = omega arith in q)
   nest-body e os s version l b h o w y x f (leave z k v g t) =
@@ -309,8 +309,8 @@ module _ (doc : List ℕ) where
       front (a-nestedbinaryxml (nestedbinaryxml b (document h o w y x) k)) (record { elements = omega arith; nested = omega arith }) (body v g t)
 
   pub nest : (m : Mode) (e : ℕ) (os : List Scope) (s : Point) (version : ℕ) {u : Point} → content m ≡ true → length os < 8 → Byte doc (s .at) 0xEC
-      → Header doc (s .at + 1) version
-      → Rest 0 (scope (s .version) (s .known) (s .qknown) e ∷ os) mode.First (headed (nesting s version) version) u → Rest e os m s u
+      → HeaderBytes doc (s .at + 1) version
+      → Rest 0 (scope (s .version) (s .known) (s .qknown) e ∷ os) mode.First (pastHeader (pastNest s version) version) u → Rest e os m s u
   nest m e os s version c l b h (of-first o w y (body x f t)) = before m c (nest-body e os s version l b h o w y x f t)
 
   pub leaving : (m : Mode) (e : ℕ) (o : Scope) (os : List Scope) (s : Point) {u : Point} → content m ≡ true → e ≡ 0 → Byte doc (s .at) 0xEB
@@ -328,11 +328,11 @@ module _ (doc : List ℕ) where
     pub elements-few : deep .elements ≤ 64
     pub nested-few : deep .nested ≤ 8
 
-  whole-by : {s a b c t u : Point} {version : ℕ} {m : Depth} → Header doc (s .at) version → Optional (XmlDecl doc) (headed s version) a → Star (Misc doc) a b
+  whole-by : {s a b c t u : Point} {version : ℕ} {m : Depth} → HeaderBytes doc (s .at) version → Optional (XmlDecl doc) (pastHeader s version) a → Star (Misc doc) a b
       → Optional (Typed doc) b c → Content doc m c t → Few 0 [] m → Tail 0 [] t u → Whole s u version
   whole-by h o w y x f (close z k v g t) = absurd (let q : ⊥ = omega arith in q)
   whole-by h o w y x f (root z l) =
       record { deep = _; derived = document h o w y x; whole = l; elements-few = omega (arith, f .elements); nested-few = omega (arith, f .nested) }
 
-  pub wholly : {s u : Point} {version : ℕ} → Header doc (s .at) version → Rest 0 [] mode.First (headed s version) u → Whole s u version
+  pub wholly : {s u : Point} {version : ℕ} → HeaderBytes doc (s .at) version → Rest 0 [] mode.First (pastHeader s version) u → Whole s u version
   wholly h (of-first o w y (body x f t)) = whole-by h o w y x f t

@@ -23,7 +23,7 @@ use Rattle.value.specs.Fields.{textAt, qnamePayload, extentAt, ruled, fieldAt}
 use Rattle.value.specs.declared.Text.the-variants as text
 use Rattle.value.specs.declared.Field.{Field}
 use Rattle.value.specs.declared.Field.the-variants as field
-use Rattle.modes.specs.Modes.{content, listing, is, allowed}
+use Rattle.modes.specs.Modes.{content, inAttributes, is, allowed}
 use Rattle.modes.specs.declared.Mode.{Mode}
 use Rattle.modes.specs.declared.View.{View}
 use Rattle.scan.specs.declared.Room.{Room}
@@ -36,7 +36,7 @@ use Rattle.machine.proofs.Trace.{Trace}
 use Rattle.machine.proofs.Codes.{coded, reference-shape}
 use Rattle.machine.proofs.Found as found
 use Rattle.machine.proofs.Found.{Stands, TextLeads, ValueClass, Found, found-step}
-use Rattle.grammar.specs.Grammar.{Point, point, texted, referred, Atomic, Byte, TextToken, texttoken, standalone, a-namedef, namedef, a-qnamedef, qnamedef, an-extension, extension, flush-defined-name-tokens, comment, pi, misc-comment, misc-pi, a-comment, a-pi, Qname, AtomicValue, atomicvalue, qname-value}
+use Rattle.grammar.specs.Grammar.{Point, point, pastText, pastQname, Atomic, Byte, TextToken, texttoken, standalone, a-namedef, namedef, a-qnamedef, qnamedef, an-extension, extension, flush-defined-name-tokens, comment, pi, misc-comment, misc-pi, a-comment, a-pi, QnameReference, AtomicValue, atomicvalue, qname-value}
 use Rattle.grammar.proofs.Atomic.{Values, any-version, later, class-atomic}
 use Rattle.grammar.proofs.Payloads.{payload-found}
 use Rattle.grammar.proofs.Leaves.{number-found, text-found, name-found, qname-found, header-found}
@@ -57,12 +57,12 @@ module _ (doc : List ℕ) where
 
   -- ---- texts
   text-token : (s : Point) (token : ℕ) {place units : ℕ} → Byte doc (s .at) token → textAt 5 doc (s .at + 1) ≡ text.Is place units
-      → TextToken doc token s (texted s token place units)
+      → TextToken doc token s (pastText s token place units)
   text-token s token b e = texttoken b (text-found doc (s .at + 1) e)
 
   texts : (s : State) {c : Class} {m : Mode} {place units : ℕ} {u : Point} → Stands doc (view s) c → TextLeads (s .mode) c m
       → textAt 5 doc (s .at + 1) ≡ text.Is place units
-      → Rest doc (s .here .elements) (s .outer) m (texted (pointOf s) (getD doc (s .at) 0) place units) u → Left doc s u
+      → Rest doc (s .here .elements) (s .outer) m (pastText (pointOf s) (getD doc (s .at) 0) place units) u → Left doc s u
   texts s t found.xmlDecl e r =
       let k : getD doc (s .at) 0 ≡ 0xFE = eqb-true _ _ (coded _ (t .class-is)) in
       rest.xml-decl doc (s .mode) (t .may) (text-token (pointOf s) 0xFE (byte t k) e) (rw k at r)
@@ -87,13 +87,13 @@ module _ (doc : List ℕ) where
       rest.cdata doc (s .mode) (t .may) (text-token (pointOf s) 0xF2 (byte t k) e) (rw k at r)
 
   -- ---- values
-  value-may : (v : View) {c : Class} → ValueClass c → allowed c v ≡ true → (content (v .mode) || listing (v .mode)) ≡ true
+  value-may : (v : View) {c : Class} → ValueClass c → allowed c v ≡ true → (content (v .mode) || inAttributes (v .mode)) ≡ true
   value-may v found.any-version a = a
-  value-may v found.version-2 a = and-left (content (v .mode) || listing (v .mode)) _ a
+  value-may v found.version-2 a = and-left (content (v .mode) || inAttributes (v .mode)) _ a
 
   values : (v : View) {c : Class} → ValueClass c → allowed c v ≡ true → Values (v .version) c
   values v found.any-version a = any-version
-  values v found.version-2 a = later (eqb-true _ _ (and-right (content (v .mode) || listing (v .mode)) _ a))
+  values v found.version-2 a = later (eqb-true _ _ (and-right (content (v .mode) || inAttributes (v .mode)) _ a))
 
   atom : (s : State) {c : Class} → Stands doc (view s) c → ValueClass c → Atomic (s .here .version) (getD doc (s .at) 0) (shapeOf (getD doc (s .at) 0))
   atom s t k =
@@ -122,7 +122,7 @@ module _ (doc : List ℕ) where
 
   referring : (s : State) {c : Class} {k : QnameNumber} {next : ℕ} → Stands doc (view s) c → ValueClass c
       → fieldAt (shapeOf (getD doc (s .at) 0)) doc (s .at) ≡ field.Reference k next → 1 ≤ k .0 → k .0 ≤ length (s .here .qnames)
-      → AtomicValue doc (pointOf s) (referred (pointOf s) (getD doc (s .at) 0) (k .0) next)
+      → AtomicValue doc (pointOf s) (pastQname (pointOf s) (getD doc (s .at) 0) (k .0) next)
   referring s t c e a b =
       let q = reference-shape (shapeOf (getD doc (s .at) 0)) doc (s .at) e in
       qname-value (byte t refl) (subst (λ (h : Shape). Atomic (s .here .version) (getD doc (s .at) 0) h) q (atom s t c))

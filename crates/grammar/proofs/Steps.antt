@@ -12,7 +12,7 @@ use Rattle.token.specs.declared.Class.{Class}
 use Rattle.token.specs.declared.Class.the-variants as class
 use Rattle.value.specs.Fields.{textAt, extentAt, fieldAt}
 use Rattle.value.specs.declared.Text.the-variants as text
-use Rattle.modes.specs.Modes.{content, listing, inDeclaration, is, allowed, afterMetadata, afterMisc, afterValue}
+use Rattle.modes.specs.Modes.{content, inAttributes, inDeclaration, is, allowed, afterMetadata, afterMisc, afterValue}
 use Rattle.scan.specs.Steps.{eventDue, textStep, nameStep, qnameStep, extensionStep, piStep, elementStep, attributeStep, valueStep, nestStep, classStep, tokenStep, declaredStep, stepAt}
 use Rattle.modes.specs.declared.Mode.{Mode}
 use Rattle.modes.specs.declared.Mode.the-variants as mode
@@ -23,7 +23,7 @@ use Rattle.scan.specs.declared.Step.the-variants as step
 use Rattle.machine.specs.Machine.{event, Scope, scope, State, state, namesIn, qnamesIn, apply}
 use Rattle.machine.specs.Machine as machine
 use Rattle.machine.proofs.Goes.{Goes}
-use Rattle.grammar.specs.Grammar.{Point, referred, ended, headed, nesting, returned, Byte, TextToken, texttoken, Qname, Header, Standalone, standalone, Metadata, a-namedef, namedef, a-qnamedef, qnamedef, an-extension, extension, flush-defined-name-tokens, Pi, pi, AtomicValue, atomicvalue, qname-value}
+use Rattle.grammar.specs.Grammar.{Point, pastQname, pastEnd, pastHeader, pastNest, pastEndNest, Byte, TextToken, texttoken, QnameReference, HeaderBytes, Standalone, standalone, Metadata, a-namedef, namedef, a-qnamedef, qnamedef, an-extension, extension, flush-defined-name-tokens, Pi, pi, AtomicValue, atomicvalue, qname-value}
 use Rattle.grammar.proofs.Atomic.{Values, any-version, later, atomic-class, atomic-shape}
 use Rattle.grammar.proofs.Payloads.{payload-derived}
 use Rattle.grammar.proofs.Leaves.{number-derived, text-derived, name-derived, qname-derived, header-derived}
@@ -168,7 +168,7 @@ module _ (opened : ℕ → List Scope → ℕ) (nested : List Scope → ℕ) (do
         (λ f. rw (lt-ltb _ _ (b .inside), b .is, le-leb _ _ l, lt-ltb _ _ (room-for (s .events) _ (f .events))))
 
     -- metadata
-    pub metadata : (m : Mode) {s t : Point} → inDeclaration m ≡ false → (content m || listing m) ≡ true → Metadata doc s t
+    pub metadata : (m : Mode) {s t : Point} → inDeclaration m ≡ false → (content m || inAttributes m) ≡ true → Metadata doc s t
         → Reach (stateOf s m e os) (stateOf t (afterMetadata m) e os)
     unfolding classStep nameStep qnameStep extensionStep classOf
     metadata m {s = s} d a (a-namedef (namedef {place = place} {units = units} b x)) =
@@ -192,12 +192,12 @@ module _ (opened : ℕ → List Scope → ℕ) (nested : List Scope → ℕ) (do
 
     -- a value
     value-token : (v : View) {c : Class} {k : ℕ} → Values (v .version) c → classOf k ≡ c → Byte doc (v .at) k → inDeclaration (v .mode) ≡ false
-        → (content (v .mode) || listing (v .mode)) ≡ true → valueStep doc v room k ≡ stepAt doc v room
+        → (content (v .mode) || inAttributes (v .mode)) ≡ true → valueStep doc v room k ≡ stepAt doc v room
     unfolding classStep
     value-token v any-version o b d a = at-token v class.Value b d o a
     value-token v (later h) o b d a = at-token v class.LaterValue b d o (rw (a, h))
 
-    pub value : (m : Mode) {s t : Point} → inDeclaration m ≡ false → (content m || listing m) ≡ true → AtomicValue doc s t
+    pub value : (m : Mode) {s t : Point} → inDeclaration m ≡ false → (content m || inAttributes m) ≡ true → AtomicValue doc s t
         → Reach (stateOf s m e os) (stateOf t (afterValue m) e os)
     unfolding valueStep eventDue fieldAt extentAt
     value m {s = s} d a (atomicvalue {token = token} {place = place} {size = size} b k x) =
@@ -208,20 +208,20 @@ module _ (opened : ℕ → List Scope → ℕ) (nested : List Scope → ℕ) (do
         (λ f. rw (atomic-shape k, number-derived doc (x .mb32), le-leb _ _ (x .positive), le-leb _ _ (x .defined), lt-ltb _ _ (room-for (s .events) _ (f .events))) at (value-token (look (stateOf s m e os)) (atomic-class k) refl b d a))
 
     -- attributes
-    pub attribute : (m : Mode) (s : Point) {number next : ℕ} → inDeclaration m ≡ false → (is m mode.Tag || listing m) ≡ true → Byte doc (s .at) 0xF6
-        → Qname doc s (s .at + 1) number next → Reach (stateOf s m e os) (stateOf (referred s 0xF6 number next) mode.Attributes e os)
+    pub attribute : (m : Mode) (s : Point) {number next : ℕ} → inDeclaration m ≡ false → (is m mode.Tag || inAttributes m) ≡ true → Byte doc (s .at) 0xF6
+        → QnameReference doc s (s .at + 1) number next → Reach (stateOf s m e os) (stateOf (pastQname s 0xF6 number next) mode.Attributes e os)
     unfolding classStep attributeStep eventDue classOf
     attribute m s {number} {next} d a b x =
         one (stateOf s m e os) (step.Refer 0xF6 (record { 0 = number }) mode.Attributes next) tt
         (λ f. rw (qname-derived doc s x, lt-ltb _ _ (room-for (s .events) _ (f .events))) at (at-token (look (stateOf s m e os)) class.Attribute b d refl a))
 
-    pub end-attributes : (s : Point) → Byte doc (s .at) 0xF5 → Reach (stateOf s mode.Attributes e os) (stateOf (ended s 0xF5) mode.Content e os)
+    pub end-attributes : (s : Point) → Byte doc (s .at) 0xF5 → Reach (stateOf s mode.Attributes e os) (stateOf (pastEnd s 0xF5) mode.Content e os)
     unfolding classStep eventDue classOf
     end-attributes s b =
         one (stateOf s mode.Attributes e os) (step.Event 0xF5 0 0 mode.Content (s .at + 1)) tt
         (λ f. rw (lt-ltb _ _ (room-for (s .events) _ (f .events))) at (at-token (look (stateOf s mode.Attributes e os)) class.EndAttributes b refl refl refl))
 
-    pub cdata-end : (s : Point) → Byte doc (s .at) 0xF1 → Reach (stateOf s mode.Cdata e os) (stateOf (ended s 0xF1) mode.Content e os)
+    pub cdata-end : (s : Point) → Byte doc (s .at) 0xF1 → Reach (stateOf s mode.Cdata e os) (stateOf (pastEnd s 0xF1) mode.Content e os)
     unfolding classStep eventDue classOf
     cdata-end s b =
         one (stateOf s mode.Cdata e os) (step.Event 0xF1 0 0 mode.Content (s .at + 1)) tt
@@ -229,14 +229,14 @@ module _ (opened : ℕ → List Scope → ℕ) (nested : List Scope → ℕ) (do
 
     -- elements
     pub opens : (m : Mode) (s : Point) {number next : ℕ} → inDeclaration m ≡ false → content m ≡ true → opened e os < 64 → Byte doc (s .at) 0xF8
-        → Qname doc s (s .at + 1) number next → Reach (stateOf s m e os) (stateOf (referred s 0xF8 number next) mode.Tag (e + 1) os)
+        → QnameReference doc s (s .at + 1) number next → Reach (stateOf s m e os) (stateOf (pastQname s 0xF8 number next) mode.Tag (e + 1) os)
     unfolding classStep elementStep eventDue classOf
     opens m s {number} {next} d a l b x =
         one (stateOf s m e os) (step.Open (record { 0 = number }) next) tt
         (λ f. rw (lt-ltb _ _ l, qname-derived doc s x, lt-ltb _ _ (room-for (s .events) _ (f .events))) at (at-token (look (stateOf s m e os)) class.Element b d refl a))
 
     pub closes : (m : Mode) (s : Point) → inDeclaration m ≡ false → content m ≡ true → Byte doc (s .at) 0xF7
-        → Reach (stateOf s m (e + 1) os) (stateOf (ended s 0xF7) mode.Content e os)
+        → Reach (stateOf s m (e + 1) os) (stateOf (pastEnd s 0xF7) mode.Content e os)
     unfolding classStep eventDue classOf
     closes m s d a b =
         let l : 0 < e + 1 = omega arith in
@@ -245,15 +245,15 @@ module _ (opened : ℕ → List Scope → ℕ) (nested : List Scope → ℕ) (do
         (λ f. rw (lt-ltb _ _ (room-for (s .events) _ (f .events))) at (at-token (look (stateOf s m (e + 1) os)) class.EndElement b d refl (rw (a, lt-ltb _ _ l)))))
 
     -- nested documents
-    pub nests : (m : Mode) (s : Point) (version : ℕ) → inDeclaration m ≡ false → content m ≡ true → nested os < 8 → Byte doc (s .at) 0xEC → Header doc (s .at + 1) version
-        → Reach (stateOf s m e os) (stateOf (headed (nesting s version) version) mode.First 0 (scope (s .version) (s .known) (s .qknown) e ∷ os))
+    pub nests : (m : Mode) (s : Point) (version : ℕ) → inDeclaration m ≡ false → content m ≡ true → nested os < 8 → Byte doc (s .at) 0xEC → HeaderBytes doc (s .at + 1) version
+        → Reach (stateOf s m e os) (stateOf (pastHeader (pastNest s version) version) mode.First 0 (scope (s .version) (s .known) (s .qknown) e ∷ os))
     unfolding classStep nestStep eventDue classOf
     nests m s version d a l b x =
         one (stateOf s m e os) (step.Nest version ((s .at + 1) + 5)) tt
         (λ f. rw (lt-ltb _ _ l, header-derived doc x, lt-ltb _ _ (room-for (s .events) _ (f .events))) at (at-token (look (stateOf s m e os)) class.Nest b d refl a))
 
     pub leaves : (m : Mode) (s t : Point) → 0 < nested (scope (s .version) (s .known) (s .qknown) e ∷ os) → inDeclaration m ≡ false → content m ≡ true → Byte doc (t .at) 0xEB
-        → Reach (stateOf t m 0 (scope (s .version) (s .known) (s .qknown) e ∷ os)) (stateOf (returned s t) mode.Content e os)
+        → Reach (stateOf t m 0 (scope (s .version) (s .known) (s .qknown) e ∷ os)) (stateOf (pastEndNest s t) mode.Content e os)
     unfolding classStep eventDue classOf
     leaves m s t l d a b =
         one (stateOf t m 0 (scope (s .version) (s .known) (s .qknown) e ∷ os)) (step.Leave (t .at + 1)) tt

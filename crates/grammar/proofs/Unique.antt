@@ -7,7 +7,7 @@ use native.Mathlib.Omega.{arith}
 use lib.ListN.{length}
 use Rattle.scan.specs.declared.Room.{Room}
 use Rattle.machine.specs.Machine.{started}
-use Rattle.grammar.specs.Grammar.{Point, rowsAt, blank, Depth, Document, rowsIn}
+use Rattle.grammar.specs.Grammar.{Point, rowsAt, beforeHeader, Depth, Document, rowsIn}
 use Rattle.grammar.proofs.Steps.{stateOf, Path}
 use Rattle.grammar.proofs.Ends.{same-end, Reaches, noneOpen, someNested, unlimited}
 
@@ -21,7 +21,7 @@ same-rows doc room {v} {w} {s} {t} a b =
     (e, ap rowsIn q)
 
 -- demand 2: whatever the limits, two derivations of one document have the same version and the same rows
-pub at-most-one : (doc : List ℕ) {m n : Depth} {v w : ℕ} {s t : Point} → Document doc m v blank s → s .at ≡ length doc → Document doc n w blank t → t .at ≡ length doc
+pub at-most-one : (doc : List ℕ) {m n : Depth} {v w : ℕ} {s t : Point} → Document doc m v beforeHeader s → s .at ≡ length doc → Document doc n w beforeHeader t → t .at ≡ length doc
     → (v ≡ w) × (rowsAt s ≡ rowsAt t)
 at-most-one doc {s = s} {t = t} x a y b =
     let room : Room = record {

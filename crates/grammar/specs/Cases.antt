@@ -3,9 +3,9 @@ use Prim.Native.Nat.{ℕ}
 use mathlib.Core.List.{List, [], _∷_, _++_}
 use mathlib.Core.Option.{Option, some}
 use Rattle.plan.specs.Text.{textOf}
-use Rattle.machine.specs.Machine.{NameRow, QnameRow, EventRow, Result}
+use Rattle.machine.specs.Machine.{NameRow, QnameRow, EventRow, Result, full}
 use Rattle.machine.specs.Machine as machine
-use Rattle.machine.specs.Examples.{H, full, Case, case}
+use Rattle.machine.specs.Examples.{H, Case, case}
 
 -- a case of reading, none has a row; or a token with its payload and the units of its text
 pub data Worked : Type 0 where

@@ -4,7 +4,7 @@ use Prim.Native.Nat.{ℕ, suc, _+_, _*_, _%_, _≤_, _<_, max}
 use mathlib.Core.Path.{_≡_}
 use mathlib.Core.List.{List, [], _∷_, _++_, map}
 use lib.ListN.{length, getD}
-use Rattle.token.specs.Tokens.{largest, longest, openElements, nestedDocuments, accepted, PI-TOKEN, NEST-TOKEN, ENDNEST-TOKEN, XMLDECL-TOKEN, ENCODING-TOKEN, DOCTYPEDECL-TOKEN, SYSTEM-TOKEN, PUBLIC-TOKEN, SUBSET-TOKEN, NAMEDEF-TOKEN, QNAMEDEF-TOKEN, EXTN-TOKEN, FLUSH-DEFINED-NAME-TOKENS, COMMENT-TOKEN, CDATA-TOKEN, CDATAEND-TOKEN, ATTRIBUTE-TOKEN, ENDATTRIBUTES-TOKEN, ELEMENT-TOKEN, ENDELEMENT-TOKEN}
+use Rattle.token.specs.Tokens.{largest, mb32, mb64, longest, openElements, nestedDocuments, accepted, PI-TOKEN, NEST-TOKEN, ENDNEST-TOKEN, XMLDECL-TOKEN, ENCODING-TOKEN, DOCTYPEDECL-TOKEN, SYSTEM-TOKEN, PUBLIC-TOKEN, SUBSET-TOKEN, NAMEDEF-TOKEN, QNAMEDEF-TOKEN, EXTN-TOKEN, FLUSH-DEFINED-NAME-TOKENS, COMMENT-TOKEN, CDATA-TOKEN, CDATAEND-TOKEN, ATTRIBUTE-TOKEN, ENDATTRIBUTES-TOKEN, ELEMENT-TOKEN, ENDELEMENT-TOKEN}
 use mathlib.Core.Logic.{_⊎_}
 use Rattle.sequences.specs.Lists.{part, little}
 use Rattle.token.specs.declared.Shape.{Shape}
@@ -26,13 +26,13 @@ module _ (doc : List ℕ) where
     highbyte : {most p b v q : ℕ} → Byte p b → 128 ≤ b → Digits most (p + 1) v q → Digits (suc most) p (b % 128 + 128 * v) q
 
   -- 01: the value is at most 2,147,483,647; longer spellings than needed are accepted
-  pub record Number (most p v q : ℕ) : Type 0 where
+  pub record MultiByte (most p v q : ℕ) : Type 0 where
     pub spelled : Digits most p v q
     pub small : v ≤ largest
 
-  -- mb32 = *4highbyte lowbyte; mb64 = *9highbyte lowbyte is `Number 10`, in payloads alone
+  -- mb32 = *4highbyte lowbyte; mb64 = *9highbyte lowbyte is `MultiByte mb64`, in payloads alone
   abbrev pub Mb32 : ℕ → ℕ → ℕ → Type 0
-  Mb32 p v q = Number 5 p v q
+  Mb32 p v q = MultiByte mb32 p v q
 
   -- textdata = length32 *(byte byte): its units lie at a place
   pub record TextData (p place units : ℕ) : Type 0 where
@@ -65,36 +65,36 @@ module _ (doc : List ℕ) where
   pub record SqlTimeZone (place : ℕ) : Type 0 where
     pub within : (little (part doc place 2) ≤ 840) ⊎ (64696 ≤ little (part doc place 2))
 
-  pub data Payload : Shape → ℕ → ℕ → ℕ → Type 0 where
+  pub data PayloadAt : Shape → ℕ → ℕ → ℕ → Type 0 where
     -- no value has this shape
-    nothing : {at : ℕ} → (at + 1) + 0 ≤ length doc → Payload shape.Nothing at (at + 1) 0
+    nothing : {at : ℕ} → (at + 1) + 0 ≤ length doc → PayloadAt shape.Nothing at (at + 1) 0
     -- byte, 2byte, 4byte, 8byte, 16byte
-    bytes : {at size : ℕ} → (at + 1) + size ≤ length doc → Payload (shape.Fixed size) at (at + 1) size
+    bytes : {at size : ℕ} → (at + 1) + size ≤ length doc → PayloadAt (shape.Fixed size) at (at + 1) size
     -- textdata = length32 *(byte byte), textdata64 = length64 *(byte byte)
-    textdata : {most at units place : ℕ} → Number doc most (at + 1) units place → place + 2 * units ≤ length doc → Payload (shape.Text most) at place (2 * units)
+    textdata : {most at units place : ℕ} → MultiByte doc most (at + 1) units place → place + 2 * units ≤ length doc → PayloadAt (shape.Text most) at place (2 * units)
     -- blob = length32 *byte, blob64 = length64 *byte
-    blob : {most at place size : ℕ} → Number doc most (at + 1) size place → place + size ≤ length doc → Payload (shape.Blob most) at place size
+    blob : {most at place size : ℕ} → MultiByte doc most (at + 1) size place → place + size ≤ length doc → PayloadAt (shape.Blob most) at place size
     -- codepagetext = length32 codepage *byte, codepagetext64 = length64 codepage *byte; codepage = 4byte
-    codepagetext : {most at place size : ℕ} → Number doc most (at + 1) size place → place + size ≤ length doc → 4 ≤ size → Payload (shape.CodePage most) at place size
+    codepagetext : {most at place size : ℕ} → MultiByte doc most (at + 1) size place → place + size ≤ length doc → 4 ≤ size → PayloadAt (shape.CodePage most) at place size
     -- decimal = length32 byte sign decimaldata, where 2.3.5 and 01 have two bytes before the sign: precision at most 38,
     -- scale at most precision; sign 0 or 1
-    decimal : {at place size : ℕ} → Number doc 5 (at + 1) size place → DecimalSize size → place + size ≤ length doc → getD doc place 0 ≤ 38
-        → getD doc (place + 1) 0 ≤ getD doc place 0 → getD doc (place + 2) 0 ≤ 1 → Payload shape.Decimal at place size
+    decimal : {at place size : ℕ} → MultiByte doc mb32 (at + 1) size place → DecimalSize size → place + size ≤ length doc → getD doc place 0 ≤ 38
+        → getD doc (place + 1) 0 ≤ getD doc place 0 → getD doc (place + 2) 0 ≤ 1 → PayloadAt shape.Decimal at place size
     -- 8byte of XSD-TIME, XSD-DATETIME, XSD-DATE; 01: the low two bits
-    stamp : {low at : ℕ} → (at + 1) + 8 ≤ length doc → getD doc (at + 1) 0 % 4 ≡ low → Payload (shape.Stamp low) at (at + 1) 8
+    stamp : {low at : ℕ} → (at + 1) + 8 ≤ length doc → getD doc (at + 1) 0 % 4 ≡ low → PayloadAt (shape.Stamp low) at (at + 1) 8
     -- sqldate
-    sqldate : {first last at : ℕ} → (at + 1) + 3 ≤ length doc → SqlDate first last (at + 1) → Payload (shape.Date first last) at (at + 1) 3
+    sqldate : {first last at : ℕ} → (at + 1) + 3 ≤ length doc → SqlDate first last (at + 1) → PayloadAt (shape.Date first last) at (at + 1) 3
     -- sqldatetime2 = sqltime sqldate
     sqldatetime2 : {first last at time : ℕ} → SqlTime (at + 1) time → (at + 1) + (time + 3) ≤ length doc → SqlDate first last ((at + 1) + time)
-        → Payload (shape.Time first last) at (at + 1) (time + 3)
+        → PayloadAt (shape.Time first last) at (at + 1) (time + 3)
     -- sqldatetimeoffset = sqltime sqldate sqltimezone
     sqldatetimeoffset : {first last at time : ℕ} → SqlTime (at + 1) time → (at + 1) + (time + 5) ≤ length doc → SqlDate first last ((at + 1) + time)
-        → SqlTimeZone ((at + 1) + (time + 3)) → Payload (shape.ZonedTime first last) at (at + 1) (time + 5)
+        → SqlTimeZone ((at + 1) + (time + 3)) → PayloadAt (shape.ZonedTime first last) at (at + 1) (time + 5)
 
 -- ---- the alternatives of atomicvalue in 004's order: the token, and the shape of what follows it; 01 decides that 7A to 7F are
 -- of version 2 alone, and the bounds that shapes carry: the first and the last day
 
--- `Text n`, `Blob n`, `CodePage n`: the length is an mb32 (n is 5) or an mb64 (n is 10)
+-- `Text`, `Blob`, `CodePage`: the length is an mb32 or an mb64
 pub data Atomic (version : ℕ) : ℕ → Shape → Type 0 where
   SQL-BIT : Atomic version 0x06 (shape.Fixed 1)
   SQL-TINYINT : Atomic version 0x07 (shape.Fixed 1)
@@ -110,22 +110,22 @@ pub data Atomic (version : ℕ) : ℕ → Shape → Type 0 where
   SQL-DECIMAL : Atomic version 0x0A shape.Decimal
   SQL-NUMERIC : Atomic version 0x0B shape.Decimal
   SQL-UUID : Atomic version 0x09 (shape.Fixed 16)
-  SQL-VARBINARY : Atomic version 0x0F (shape.Blob 10)
-  SQL-BINARY : Atomic version 0x0C (shape.Blob 5)
-  SQL-IMAGE : Atomic version 0x17 (shape.Blob 10)
-  SQL-CHAR : Atomic version 0x0D (shape.CodePage 5)
-  SQL-VARCHAR : Atomic version 0x10 (shape.CodePage 10)
-  SQL-TEXT : Atomic version 0x16 (shape.CodePage 10)
-  SQL-NVARCHAR : Atomic version 0x11 (shape.Text 10)
-  SQL-NCHAR : Atomic version 0x0E (shape.Text 5)
-  SQL-NTEXT : Atomic version 0x18 (shape.Text 10)
-  SQL-UDT : Atomic version 0x1B (shape.Blob 5)
+  SQL-VARBINARY : Atomic version 0x0F (shape.Blob mb64)
+  SQL-BINARY : Atomic version 0x0C (shape.Blob mb32)
+  SQL-IMAGE : Atomic version 0x17 (shape.Blob mb64)
+  SQL-CHAR : Atomic version 0x0D (shape.CodePage mb32)
+  SQL-VARCHAR : Atomic version 0x10 (shape.CodePage mb64)
+  SQL-TEXT : Atomic version 0x16 (shape.CodePage mb64)
+  SQL-NVARCHAR : Atomic version 0x11 (shape.Text mb64)
+  SQL-NCHAR : Atomic version 0x0E (shape.Text mb32)
+  SQL-NTEXT : Atomic version 0x18 (shape.Text mb64)
+  SQL-UDT : Atomic version 0x1B (shape.Blob mb32)
   XSD-BOOLEAN : Atomic version 0x86 (shape.Fixed 1)
   XSD-TIME : Atomic version 0x81 (shape.Stamp 0)
   XSD-DATETIME : Atomic version 0x82 (shape.Stamp 2)
   XSD-DATE : Atomic version 0x83 (shape.Stamp 1)
-  XSD-BINHEX : Atomic version 0x84 (shape.Blob 5)
-  XSD-BASE64 : Atomic version 0x85 (shape.Blob 5)
+  XSD-BINHEX : Atomic version 0x84 (shape.Blob mb32)
+  XSD-BASE64 : Atomic version 0x85 (shape.Blob mb32)
   XSD-DECIMAL : Atomic version 0x87 shape.Decimal
   XSD-BYTE : Atomic version 0x88 (shape.Fixed 1)
   XSD-UNSIGNEDSHORT : Atomic version 0x89 (shape.Fixed 2)
@@ -167,68 +167,68 @@ abbrev pub rowsAt : Point → Rows
 rowsAt s = record { names = s .names; qnames = s .qnames; events = s .events }
 
 -- before the outer header
-abbrev pub blank : Point
-blank = point 0 0 [] [] [] [] []
+abbrev pub beforeHeader : Point
+beforeHeader = point 0 0 [] [] [] [] []
 
 -- a row of events, and the place after what it stands for
-abbrev pub evented : Point → EventRow → ℕ → Point
-evented s e next = point next (s .version) (s .known) (s .qknown) (s .names) (s .qnames) (s .events ++ (e ∷ []))
+abbrev pub pastEvent : Point → EventRow → ℕ → Point
+pastEvent s e next = point next (s .version) (s .known) (s .qknown) (s .names) (s .qnames) (s .events ++ (e ∷ []))
 
 -- a token with a text: FE, FD, FC, FB, FA, F9, F3, F2
-abbrev pub texted : Point → ℕ → ℕ → ℕ → Point
-texted s token place units = evented s (event token (s .at) place units) (place + 2 * units)
+abbrev pub pastText : Point → ℕ → ℕ → ℕ → Point
+pastText s token place units = pastEvent s (event token (s .at) place units) (place + 2 * units)
 
 -- the standalone byte: token 0
-abbrev pub stoodAlone : Point → ℕ → Point
-stoodAlone s value = evented s (event 0 (s .at) value 0) (s .at + 1)
+abbrev pub pastStandalone : Point → ℕ → Point
+pastStandalone s value = pastEvent s (event 0 (s .at) value 0) (s .at + 1)
 
 -- F4: the target's row, and the place of the text's length
-abbrev pub instructed : Point → ℕ → ℕ → ℕ → Point
-instructed s target start next = evented s (event PI-TOKEN (s .at) (rowOf (s .known) target) start) next
+abbrev pub pastPi : Point → ℕ → ℕ → ℕ → Point
+pastPi s target start next = pastEvent s (event PI-TOKEN (s .at) (rowOf (s .known) target) start) next
 
 -- F8, F6, 8C: the qname's row
-abbrev pub referred : Point → ℕ → ℕ → ℕ → Point
-referred s token number next = evented s (event token (s .at) (rowOf (s .qknown) number) 0) next
+abbrev pub pastQname : Point → ℕ → ℕ → ℕ → Point
+pastQname s token number next = pastEvent s (event token (s .at) (rowOf (s .qknown) number) 0) next
 
 -- F7, F5, F1
-abbrev pub ended : Point → ℕ → Point
-ended s token = evented s (event token (s .at) 0 0) (s .at + 1)
+abbrev pub pastEnd : Point → ℕ → Point
+pastEnd s token = pastEvent s (event token (s .at) 0 0) (s .at + 1)
 
 -- other values: the payload
-abbrev pub valued : Point → ℕ → ℕ → ℕ → Point
-valued s token place size = evented s (event token (s .at) place size) (place + size)
+abbrev pub pastValue : Point → ℕ → ℕ → ℕ → Point
+pastValue s token place size = pastEvent s (event token (s .at) place size) (place + size)
 
 -- F0: a row of names, which has the next number
-abbrev pub named : Point → ℕ → ℕ → Point
-named s place units =
+abbrev pub pastNameDef : Point → ℕ → ℕ → Point
+pastNameDef s place units =
     point (place + 2 * units) (s .version) (s .known ++ ((length (s .names) + 1) ∷ [])) (s .qknown) (s .names ++ (nameRow place units ∷ []))
     (s .qnames) (s .events)
 
 -- EF: a row of qnames, which has the next number
-abbrev pub qnamed : Point → ℕ → ℕ → ℕ → ℕ → Point
-qnamed s uri prefix local next =
+abbrev pub pastQnameDef : Point → ℕ → ℕ → ℕ → ℕ → Point
+pastQnameDef s uri prefix local next =
     point next (s .version) (s .known) (s .qknown ++ ((length (s .qnames) + 1) ∷ [])) (s .names)
     (s .qnames ++ (qnameRow (rowOf (s .known) uri) (rowOf (s .known) prefix) (rowOf (s .known) local) ∷ [])) (s .events)
 
 -- EA
-abbrev pub moved : Point → ℕ → Point
-moved s next = point next (s .version) (s .known) (s .qknown) (s .names) (s .qnames) (s .events)
+abbrev pub pastExtension : Point → ℕ → Point
+pastExtension s next = point next (s .version) (s .known) (s .qknown) (s .names) (s .qnames) (s .events)
 
 -- E9: both counts restart
-abbrev pub flushed : Point → Point
-flushed s = point (s .at + 1) (s .version) [] [] (s .names) (s .qnames) (s .events)
+abbrev pub pastFlush : Point → Point
+pastFlush s = point (s .at + 1) (s .version) [] [] (s .names) (s .qnames) (s .events)
 
 -- a header: its document starts with no names
-abbrev pub headed : Point → ℕ → Point
-headed s version = point (s .at + 5) version [] [] (s .names) (s .qnames) (s .events)
+abbrev pub pastHeader : Point → ℕ → Point
+pastHeader s version = point (s .at + 5) version [] [] (s .names) (s .qnames) (s .events)
 
 -- EC, whose row has the version of the nested document
-abbrev pub nesting : Point → ℕ → Point
-nesting s version = evented s (event NEST-TOKEN (s .at) version 0) (s .at + 1)
+abbrev pub pastNest : Point → ℕ → Point
+pastNest s version = pastEvent s (event NEST-TOKEN (s .at) version 0) (s .at + 1)
 
 -- EB: what was in force before the nested document is so again
-abbrev pub returned : Point → Point → Point
-returned s t = point (t .at + 1) (s .version) (s .known) (s .qknown) (t .names) (t .qnames) (t .events ++ (event ENDNEST-TOKEN (t .at) 0 0 ∷ []))
+abbrev pub pastEndNest : Point → Point → Point
+pastEndNest s t = point (t .at + 1) (s .version) (s .known) (s .qknown) (t .names) (t .qnames) (t .events ++ (event ENDNEST-TOKEN (t .at) 0 0 ∷ []))
 
 -- ---- the nonterminals: a derivation leads from a point to a point; its depth is what it has open at most
 
@@ -238,7 +238,7 @@ pub data Star (R : Point → Point → Type 0) : Point → Point → Type 0 wher
   cons : {s t u : Point} → R s t → Star R t u → Star R s u
 
 pub data Optional (R : Point → Point → Type 0) : Point → Point → Type 0 where
-  absent : {s : Point} → Optional R s s
+  omitted : {s : Point} → Optional R s s
   present : {s t : Point} → R s t → Optional R s t
 
 -- elements open one inside another, and documents nested one inside another
@@ -265,22 +265,22 @@ module _ (doc : List ℕ) where
   -- ---- names
 
   -- name = mb32: 0, or a number in force (2.2.2)
-  pub record Name (s : Point) (p number q : ℕ) : Type 0 where
+  pub record NameReference (s : Point) (p number q : ℕ) : Type 0 where
     pub mb32 : Mb32 doc p number q
     pub defined : number ≤ length (s .known)
 
   -- qname = mb32: a number in force, 0 is invalid (2.2.4)
-  pub record Qname (s : Point) (p number q : ℕ) : Type 0 where
+  pub record QnameReference (s : Point) (p number q : ℕ) : Type 0 where
     pub mb32 : Mb32 doc p number q
     pub positive : 1 ≤ number
     pub defined : number ≤ length (s .qknown)
 
   -- a token and its textdata
   pub data TextToken (token : ℕ) : Point → Point → Type 0 where
-    texttoken : {s : Point} {place units : ℕ} → Byte doc (s .at) token → TextData doc (s .at + 1) place units → TextToken token s (texted s token place units)
+    texttoken : {s : Point} {place units : ℕ} → Byte doc (s .at) token → TextData doc (s .at + 1) place units → TextToken token s (pastText s token place units)
 
   -- signature version encoding (2.1.1)
-  pub record Header (p version : ℕ) : Type 0 where
+  pub record HeaderBytes (p version : ℕ) : Type 0 where
     pub signature : Byte doc p 0xDF
     pub signature′ : Byte doc (p + 1) 0xFF
     pub version-is : Byte doc (p + 2) version
@@ -293,7 +293,7 @@ module _ (doc : List ℕ) where
 
   -- standalone = %x00 / %x01 / %x02
   pub data Standalone : Point → Point → Type 0 where
-    standalone : {s : Point} {value : ℕ} → Byte doc (s .at) value → value ≤ 2 → Standalone s (stoodAlone s value)
+    standalone : {s : Point} {value : ℕ} → Byte doc (s .at) value → value ≤ 2 → Standalone s (pastStandalone s value)
 
   -- xmldecl = XMLDECL-TOKEN textdata [ENCODING-TOKEN textdata] standalone
   pub data XmlDecl : Point → Point → Type 0 where
@@ -308,23 +308,23 @@ module _ (doc : List ℕ) where
 
   -- namedef = NAMEDEF-TOKEN textdata
   pub data NameDef : Point → Point → Type 0 where
-    namedef : {s : Point} {place units : ℕ} → Byte doc (s .at) NAMEDEF-TOKEN → TextData doc (s .at + 1) place units → NameDef s (named s place units)
+    namedef : {s : Point} {place units : ℕ} → Byte doc (s .at) NAMEDEF-TOKEN → TextData doc (s .at + 1) place units → NameDef s (pastNameDef s place units)
 
   -- qnamedef = QNAMEDEF-TOKEN namespaceuri prefix localname, a name each
   pub data QnameDef : Point → Point → Type 0 where
-    qnamedef : {s : Point} {uri prefix local p q next : ℕ} → Byte doc (s .at) QNAMEDEF-TOKEN → Name s (s .at + 1) uri p → Name s p prefix q → Name s q local next
-        → QnameDef s (qnamed s uri prefix local next)
+    qnamedef : {s : Point} {uri prefix local p q next : ℕ} → Byte doc (s .at) QNAMEDEF-TOKEN → NameReference s (s .at + 1) uri p → NameReference s p prefix q → NameReference s q local next
+        → QnameDef s (pastQnameDef s uri prefix local next)
 
   -- extension = EXTN-TOKEN length32 *byte
   pub data Extension : Point → Point → Type 0 where
-    extension : {s : Point} {size next : ℕ} → Byte doc (s .at) EXTN-TOKEN → Mb32 doc (s .at + 1) size next → next + size ≤ length doc → Extension s (moved s (next + size))
+    extension : {s : Point} {size next : ℕ} → Byte doc (s .at) EXTN-TOKEN → Mb32 doc (s .at + 1) size next → next + size ≤ length doc → Extension s (pastExtension s (next + size))
 
   -- metadata = namedef / qnamedef / extension / FLUSH-DEFINED-NAME-TOKENS
   pub data Metadata : Point → Point → Type 0 where
     a-namedef : {s t : Point} → NameDef s t → Metadata s t
     a-qnamedef : {s t : Point} → QnameDef s t → Metadata s t
     an-extension : {s t : Point} → Extension s t → Metadata s t
-    flush-defined-name-tokens : {s : Point} → Byte doc (s .at) FLUSH-DEFINED-NAME-TOKENS → Metadata s (flushed s)
+    flush-defined-name-tokens : {s : Point} → Byte doc (s .at) FLUSH-DEFINED-NAME-TOKENS → Metadata s (pastFlush s)
 
   -- ---- comments, PIs, CDATA (2.1.4, 2.1.8)
 
@@ -334,8 +334,8 @@ module _ (doc : List ℕ) where
 
   -- pi = PI-TOKEN name textdata
   pub data Pi : Point → Point → Type 0 where
-    pi : {s : Point} {target start place units : ℕ} → Byte doc (s .at) PI-TOKEN → Name s (s .at + 1) target start → TextData doc start place units
-        → Pi s (instructed s target start (place + 2 * units))
+    pi : {s : Point} {target start place units : ℕ} → Byte doc (s .at) PI-TOKEN → NameReference s (s .at + 1) target start → TextData doc start place units
+        → Pi s (pastPi s target start (place + 2 * units))
 
   -- misc = comment / pi / metadata
   pub data Misc : Point → Point → Type 0 where
@@ -345,16 +345,16 @@ module _ (doc : List ℕ) where
 
   -- cdsect = 1*(CDATA-TOKEN textdata) CDATAEND-TOKEN
   pub data CdSect : Point → Point → Type 0 where
-    cdsect : {s t u : Point} → TextToken CDATA-TOKEN s t → Star (TextToken CDATA-TOKEN) t u → Byte doc (u .at) CDATAEND-TOKEN → CdSect s (ended u CDATAEND-TOKEN)
+    cdsect : {s t u : Point} → TextToken CDATA-TOKEN s t → Star (TextToken CDATA-TOKEN) t u → Byte doc (u .at) CDATAEND-TOKEN → CdSect s (pastEnd u CDATAEND-TOKEN)
 
   -- ---- values (2.3, 2.4)
 
   -- the alternatives are those of `Atomic`; XSD-QNAME has a qname, the others a payload that keeps 01's value rules
   pub data AtomicValue : Point → Point → Type 0 where
     atomicvalue : {s : Point} {token place size : ℕ} {h : Shape} → Byte doc (s .at) token → Atomic (s .version) token h
-        → Payload doc h (s .at) place size → AtomicValue s (valued s token place size)
-    qname-value : {s : Point} {token number next : ℕ} → Byte doc (s .at) token → Atomic (s .version) token shape.Qname → Qname s (s .at + 1) number next
-        → AtomicValue s (referred s token number next)
+        → PayloadAt doc h (s .at) place size → AtomicValue s (pastValue s token place size)
+    qname-value : {s : Point} {token number next : ℕ} → Byte doc (s .at) token → Atomic (s .version) token shape.Qname → QnameReference s (s .at + 1) number next
+        → AtomicValue s (pastQname s token number next)
 
   -- ---- attributes (2.1.6)
 
@@ -365,12 +365,12 @@ module _ (doc : List ℕ) where
 
   -- attribute = *metadata ATTRIBUTE-TOKEN qname *(metadata / atomicvalue)
   pub data Attribute : Point → Point → Type 0 where
-    attribute : {s t u : Point} {number next : ℕ} → Star Metadata s t → Byte doc (t .at) ATTRIBUTE-TOKEN → Qname t (t .at + 1) number next
-        → Star Part (referred t ATTRIBUTE-TOKEN number next) u → Attribute s u
+    attribute : {s t u : Point} {number next : ℕ} → Star Metadata s t → Byte doc (t .at) ATTRIBUTE-TOKEN → QnameReference t (t .at + 1) number next
+        → Star Part (pastQname t ATTRIBUTE-TOKEN number next) u → Attribute s u
 
   -- 1*attribute ENDATTRIBUTES-TOKEN; metadata before ENDATTRIBUTES belongs to the last attribute
   pub data Attributes : Point → Point → Type 0 where
-    attributes : {s t u : Point} → Attribute s t → Star Attribute t u → Byte doc (u .at) ENDATTRIBUTES-TOKEN → Attributes s (ended u ENDATTRIBUTES-TOKEN)
+    attributes : {s t u : Point} → Attribute s t → Star Attribute t u → Byte doc (u .at) ENDATTRIBUTES-TOKEN → Attributes s (pastEnd u ENDATTRIBUTES-TOKEN)
 
   -- doctypedecl *misc
   pub data Typed : Point → Point → Type 0 where
@@ -380,7 +380,7 @@ module _ (doc : List ℕ) where
   mutual
     -- document = signature version encoding [xmldecl] *misc [doctypedecl *misc] content
     pub data Document : Depth → ℕ → Point → Point → Type 0 where
-      document : {m : Depth} {version : ℕ} {s a b c t : Point} → Header (s .at) version → Optional XmlDecl (headed s version) a → Star Misc a b
+      document : {m : Depth} {version : ℕ} {s a b c t : Point} → HeaderBytes (s .at) version → Optional XmlDecl (pastHeader s version) a → Star Misc a b
           → Optional Typed b c → Content m c t → Document m version s t
 
     -- content = *(element / cdsect / pi / comment / atomicvalue / metadata / nestedbinaryxml)
@@ -399,13 +399,13 @@ module _ (doc : List ℕ) where
 
     -- element = ELEMENT-TOKEN qname [1*attribute ENDATTRIBUTES-TOKEN] content ENDELEMENT-TOKEN
     pub data Element : Depth → Point → Point → Type 0 where
-      element : {m : Depth} {s a t : Point} {number next : ℕ} → Byte doc (s .at) ELEMENT-TOKEN → Qname s (s .at + 1) number next
-          → Optional Attributes (referred s ELEMENT-TOKEN number next) a → Content m a t → Byte doc (t .at) ENDELEMENT-TOKEN → Element (inElement m) s (ended t ENDELEMENT-TOKEN)
+      element : {m : Depth} {s a t : Point} {number next : ℕ} → Byte doc (s .at) ELEMENT-TOKEN → QnameReference s (s .at + 1) number next
+          → Optional Attributes (pastQname s ELEMENT-TOKEN number next) a → Content m a t → Byte doc (t .at) ENDELEMENT-TOKEN → Element (inElement m) s (pastEnd t ENDELEMENT-TOKEN)
 
     -- nestedbinaryxml = NEST-TOKEN document ENDNEST-TOKEN
     pub data NestedBinaryXml : Depth → Point → Point → Type 0 where
-      nestedbinaryxml : {m : Depth} {version : ℕ} {s t : Point} → Byte doc (s .at) NEST-TOKEN → Document m version (nesting s version) t → Byte doc (t .at) ENDNEST-TOKEN
-          → NestedBinaryXml (inDocument m) s (returned s t)
+      nestedbinaryxml : {m : Depth} {version : ℕ} {s t : Point} → Byte doc (s .at) NEST-TOKEN → Document m version (pastNest s version) t → Byte doc (t .at) ENDNEST-TOKEN
+          → NestedBinaryXml (inDocument m) s (pastEndNest s t)
 
   -- ---- limits (01, "Numbers that bound the work")
 
@@ -413,7 +413,7 @@ module _ (doc : List ℕ) where
   pub record Derives (room : Room) (version : ℕ) (rows : Rows) : Type 0 where
     pub deep : Depth
     pub end : Point
-    pub derived : Document deep version blank end
+    pub derived : Document deep version beforeHeader end
     pub whole : end .at ≡ length doc
     pub rows-are : rowsAt end ≡ rows
     pub not-long : length doc ≤ longest

@@ -10,7 +10,8 @@ use native.Mathlib.Omega.{arith}
 use lib.Dec.{eqb, ltb}
 use lib.ListN.{getElem?}
 use borrow.Author.Tests.{eqb-true, ltb-true}
-use Rattle.sequences.specs.Lists.{Bytes, part, same, Every, none, first}
+use Rattle.sequences.specs.Lists.{Bytes, part, same}
+use Rattle.sequences.specs.Arrays.{Every, none, first}
 use Rattle.sequences.proofs.Tests.{cond-if, and-left, and-right}
 use Rattle.sequences.proofs.Units.{bytes-take, bytes-drop}
 use Rattle.sequences.proofs.Members.{every-append}

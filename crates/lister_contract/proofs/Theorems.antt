@@ -20,8 +20,8 @@ use Rattle.value.specs.Fields.{needed, textAt, extentAt, fieldAt}
 use Rattle.fields.specs.Fields.{nameAt, qnameAt, headerAt}
 use Rattle.scan.specs.Steps.{eventDue, textStep, nameStep, qnameStep, extensionStep, piStep, elementStep, attributeStep, valueStep, nestStep, classStep, tokenStep, declaredStep, endStep, stepAt}
 use Rattle.scan.specs.declared.Room.{Room}
-use Rattle.machine.specs.Machine.{Result, run, reading, nameText, eventOf, eventsOf}
-use Rattle.machine.specs.Examples.{H, full}
+use Rattle.machine.specs.Machine.{Result, run, reading, nameText, eventOf, eventsOf, full}
+use Rattle.machine.specs.Examples.{H}
 use Rattle.plan.specs.Text.{kindOf, shown, textOf}
 use Rattle.grammar.specs.Grammar.{Rows, Derives, eventsDerived}
 use Rattle.grammar.proofs.Exact.{derived-accepts, events-agree}

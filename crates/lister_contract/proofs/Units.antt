@@ -8,7 +8,8 @@ use native.Mathlib.Omega.{arith}
 use lib.Dec.{ltb, leb, eqb}
 use lib.ListN.{length, getD, drop}
 use borrow.Author.Tests.{ltb-true}
-use Rattle.sequences.specs.Lists.{Bytes, little, unitsOf, Every, none, first}
+use Rattle.sequences.specs.Lists.{Bytes, little, unitsOf}
+use Rattle.sequences.specs.Arrays.{Every, none, first}
 use Rattle.sequences.proofs.Tests.{cond-if}
 use Rattle.sequences.proofs.Units.{bytes-first, bytes-rest}
 use Rattle.sequences.proofs.Members.{every-append}

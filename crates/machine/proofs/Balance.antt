@@ -12,7 +12,7 @@ use Rattle.sequences.proofs.Tests.{and-left, and-right}
 use Rattle.token.specs.Tokens.{classOf}
 use Rattle.token.specs.declared.Class.{Class}
 use Rattle.token.specs.declared.Class.the-variants as class
-use Rattle.modes.specs.Modes.{content, listing, inDeclaration, is, allowed, afterMetadata, afterValue}
+use Rattle.modes.specs.Modes.{content, inAttributes, inDeclaration, is, allowed, afterMetadata, afterValue}
 use Rattle.modes.specs.declared.Mode.{Mode}
 use Rattle.modes.specs.declared.Mode.the-variants.{Tag, First, Prolog, AfterDocType, AfterSystem, AfterPublic, Cdata}
 use Rattle.modes.specs.declared.View.{View}
@@ -35,7 +35,7 @@ elementsOf [] = []
 elementsOf (o ∷ os) = o .elements ∷ elementsOf os
 
 abbrev pub openIn : State → Opened
-openIn s = opened (s .here .elements ∷ elementsOf (s .outer)) (listing (s .mode)) (is (s .mode) Cdata)
+openIn s = opened (s .here .elements ∷ elementsOf (s .outer)) (inAttributes (s .mode)) (is (s .mode) Cdata)
 
 total-elements : (os : List Scope) → total (elementsOf os) ≡ elementsIn os
 total-elements [] = refl
@@ -49,7 +49,7 @@ length-elements (o ∷ os) = ap suc (length-elements os)
 
 -- a text leads from its mode to the next; a CDATA text opens its section or goes on in it
 text-taken : {c : Class} {m : Mode} (v : View) (ds : List ℕ) → TextLeads (v .mode) c m → allowed c v ≡ true
-    → takenBy c (opened ds (listing (v .mode)) (is (v .mode) Cdata)) ≡ some (opened ds (listing m) (is m Cdata))
+    → takenBy c (opened ds (inAttributes (v .mode)) (is (v .mode) Cdata)) ≡ some (opened ds (inAttributes m) (is m Cdata))
 text-taken v ds found.xmlDecl a =
     let c = in-content (λ m. is m First) refl refl refl refl (v .mode) a in rw (content-list _ c, content-section _ c)
 text-taken v ds found.docType a =
@@ -66,13 +66,13 @@ text-taken v ds found.comment a =
 text-taken v ds found.cdata a = rw (no-list (λ m. content m || is m Cdata) refl (v .mode) a)
 
 value-taken : {c : Class} (v : View) (ds : List ℕ) → ValueClass c → allowed c v ≡ true
-    → takenBy c (opened ds (listing (v .mode)) (is (v .mode) Cdata)) ≡ some (opened ds (listing (afterValue (v .mode))) (is (afterValue (v .mode)) Cdata))
+    → takenBy c (opened ds (inAttributes (v .mode)) (is (v .mode) Cdata)) ≡ some (opened ds (inAttributes (afterValue (v .mode))) (is (afterValue (v .mode)) Cdata))
 value-taken v ds found.any-version a = rw (value-list (v .mode), value-section (v .mode) a)
-value-taken v ds found.version-2 a = rw (value-list (v .mode), value-section (v .mode) (and-left (content (v .mode) || listing (v .mode)) _ a))
+value-taken v ds found.version-2 a = rw (value-list (v .mode), value-section (v .mode) (and-left (content (v .mode) || inAttributes (v .mode)) _ a))
 
 module _ (doc : List ℕ) (room : Room) (s : State) (i : check nothingOpen (s .events) ≡ some (openIn s)) where
   -- metadata opens and closes nothing
-  quiet : check nothingOpen (s .events) ≡ some (opened (s .here .elements ∷ elementsOf (s .outer)) (listing (afterMetadata (s .mode))) (is (afterMetadata (s .mode)) Cdata))
+  quiet : check nothingOpen (s .events) ≡ some (opened (s .here .elements ∷ elementsOf (s .outer)) (inAttributes (afterMetadata (s .mode))) (is (afterMetadata (s .mode)) Cdata))
   quiet = rw (metadata-list (s .mode), metadata-section (s .mode)) i
 
   by-event : (e : EventRow) {b : Opened} → taken (e .token) (openIn s) ≡ some b → check nothingOpen (s .events ++ (e ∷ [])) ≡ some b
@@ -101,11 +101,11 @@ module _ (doc : List ℕ) (room : Room) (s : State) (i : check nothingOpen (s .e
   balance-step g (found.texted t l e r) = by-event _ (rw (t .class-is) (text-taken (view s) _ l (t .may)))
   balance-step g (found.encoding a m b e r) = by-event _ (rw (b, m))
   balance-step g (found.standalone a d b r) = by-event _ (rw (no-list inDeclaration refl _ d, no-section inDeclaration refl _ d))
-  balance-step g (found.end-attributes t r) = let m = t .may in by-event _ (rw (t .class-is, m, no-section listing refl _ m))
+  balance-step g (found.end-attributes t r) = let m = t .may in by-event _ (rw (t .class-is, m, no-section inAttributes refl _ m))
   balance-step g (found.cdata-end t r) = let m = t .may in by-event _ (rw (t .class-is, m, no-list (λ k. is k Cdata) refl _ m))
   balance-step g (found.value t c e r) = by-event _ (rw (t .class-is) (value-taken (view s) _ c (t .may)))
   balance-step g (found.qname-value t c e a b r) = by-event _ (rw (t .class-is) (value-taken (view s) _ c (t .may)))
-  balance-step g (found.attribute t e r) = by-event _ (rw (no-section (λ m. is m Tag || listing m) refl _ (t .may)))
+  balance-step g (found.attribute t e r) = by-event _ (rw (no-section (λ m. is m Tag || inAttributes m) refl _ (t .may)))
   balance-step g (found.element t o e r) =
       let c : content (s .mode) ≡ true = t .may in
       let k = total-elements (s .outer) in

@@ -8,7 +8,7 @@ use native.Mathlib.Omega.{arith}
 use lib.Dec.{eqb}
 use lib.ListN.{length, getD, length-append}
 use borrow.Author.Tests.{eqb-true}
-use Rattle.sequences.specs.Lists.{Every, none, first}
+use Rattle.sequences.specs.Arrays.{Every, none, first}
 use Rattle.sequences.proofs.Members.{every-append, every-weaken, every-getD}
 use Rattle.token.specs.Tokens.{classOf, shapeOf}
 use Rattle.token.specs.declared.Class.{Class}

@@ -30,7 +30,7 @@ use Rattle.fields.specs.declared.Qname.the-variants as qname
 use Rattle.fields.specs.declared.Header.{Header}
 use Rattle.fields.specs.declared.Header.the-variants as header
 use Rattle.modes.specs.Modes.{content, inDeclaration, is, allowed, afterMisc, afterValue}
-use Rattle.scan.specs.Steps.{eventDue, textAfter, textStep, nameAfter, nameStep, localAfter, prefixAfter, uriAfter, qnameStep, extensionAfter, extensionStep, dataAfter, targetAfter, piStep, openAfter, elementStep, attributeAfter, attributeStep, valueAfter, valueStep, nestAfter, nestStep, classStep, tokenStep, declaredStep, endStep, stepAt}
+use Rattle.scan.specs.Steps.{eventDue, textAfter, textStep, nameAfter, nameStep, localAfter, prefixAfter, uriAfter, qnameStep, extensionAfter, extensionStep, dataAfter, targetAfter, piStep, openAfter, elementStep, referAfter, attributeStep, valueAfter, valueStep, nestAfter, nestStep, classStep, tokenStep, declaredStep, endStep, stepAt}
 use Rattle.modes.specs.declared.Mode.{Mode}
 use Rattle.modes.specs.declared.Mode.the-variants.{Content, Tag, First, Prolog, AfterDocType, AfterSystem, AfterPublic, Attributes, Cdata, AfterXmlDecl, AfterEncoding}
 use Rattle.modes.specs.declared.View.{View}
@@ -176,7 +176,7 @@ module _ (doc : List ℕ) (v : View) (room : Room) where
   open-found s o (qname.Is number next) e = due _ (λ r. element s o e r)
   open-found s o (qname.Refused number place) e = stop (qname-refused (v .qknown) doc (v .at + 1) e)
 
-  attribute-found : Stands doc v class.Attribute → (n : Qname) → qnameAt (v .qknown) doc (v .at + 1) ≡ n → Found doc v room (attributeAfter v room n)
+  attribute-found : Stands doc v class.Attribute → (n : Qname) → qnameAt (v .qknown) doc (v .at + 1) ≡ n → Found doc v room (referAfter v room n)
   attribute-found s (qname.Is number next) e = due _ (λ r. attribute s e r)
   attribute-found s (qname.Refused number place) e = stop (qname-refused (v .qknown) doc (v .at + 1) e)
 

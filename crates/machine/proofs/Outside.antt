@@ -1,13 +1,13 @@
 -- Which modes have an attribute list or a CDATA section open, mode by mode. Assumes nothing.
 use mathlib.Core.Path.{_≡_, refl, sym, _∙_}
 use mathlib.Core.Bool.{Bool, true, false, _||_}
-use Rattle.modes.specs.Modes.{content, listing, is, afterMetadata, afterMisc, afterValue}
+use Rattle.modes.specs.Modes.{content, inAttributes, is, afterMetadata, afterMisc, afterValue}
 use Rattle.modes.specs.declared.Mode.{Mode}
 use Rattle.modes.specs.declared.Mode.the-variants.{Content, Tag, First, Prolog, AfterDocType, AfterSystem, AfterPublic, Attributes, Cdata, AfterXmlDecl, AfterEncoding}
 
 module _ (test : Mode → Bool) where
   -- a test that fails in an attribute list holds only where none is open
-  pub no-list : test Attributes ≡ false → (m : Mode) → test m ≡ true → listing m ≡ false
+  pub no-list : test Attributes ≡ false → (m : Mode) → test m ≡ true → inAttributes m ≡ false
   no-list a Content e = refl
   no-list a Tag e = refl
   no-list a First e = refl
@@ -50,14 +50,14 @@ module _ (test : Mode → Bool) where
   in-content a b c d AfterEncoding e = sym d ∙ e
 
 -- no list and no section is open at root or in an element
-pub content-list : (m : Mode) → content m ≡ true → listing m ≡ false
+pub content-list : (m : Mode) → content m ≡ true → inAttributes m ≡ false
 content-list m e = no-list content refl m e
 
 pub content-section : (m : Mode) → content m ≡ true → is m Cdata ≡ false
 content-section m e = no-section content refl m e
 
 -- a value leaves both as they are, and so does metadata
-pub value-list : (m : Mode) → listing (afterValue m) ≡ listing m
+pub value-list : (m : Mode) → inAttributes (afterValue m) ≡ inAttributes m
 value-list Content = refl
 value-list Tag = refl
 value-list First = refl
@@ -70,7 +70,7 @@ value-list Cdata = refl
 value-list AfterXmlDecl = refl
 value-list AfterEncoding = refl
 
-pub value-section : (m : Mode) → (content m || listing m) ≡ true → is (afterValue m) Cdata ≡ is m Cdata
+pub value-section : (m : Mode) → (content m || inAttributes m) ≡ true → is (afterValue m) Cdata ≡ is m Cdata
 value-section Content e = refl
 value-section Tag e = refl
 value-section First e = refl
@@ -83,7 +83,7 @@ value-section Cdata e = e
 value-section AfterXmlDecl e = refl
 value-section AfterEncoding e = refl
 
-pub metadata-list : (m : Mode) → listing (afterMetadata m) ≡ listing m
+pub metadata-list : (m : Mode) → inAttributes (afterMetadata m) ≡ inAttributes m
 metadata-list Content = refl
 metadata-list Tag = refl
 metadata-list First = refl

@@ -16,13 +16,13 @@ use Rattle.number.specs.Number as numbers
 use Rattle.number.specs.declared.Number.{Number}
 use Rattle.number.specs.declared.Number.the-variants as number
 use Rattle.rules.specs.Rules.{decimalSize, lawful}
-use Rattle.value.specs.Fields.{needed, textAfter, textPayload, textAt, blobAfter, decimalAfter, timeField, extentAt, ruled, fieldAt}
+use Rattle.value.specs.Fields.{needed, textJudged, textPayload, textAt, blobAfter, decimalAfter, timeField, extentAt, ruled, fieldAt}
 use Rattle.value.specs.Fields as values
 use Rattle.value.specs.declared.Text as declared
 use Rattle.value.specs.declared.Text.the-variants as text
 use Rattle.value.specs.declared.Field.{Field}
 use Rattle.value.specs.declared.Field.the-variants.{Payload, Reference, Refused}
-use Rattle.fields.specs.Fields.{nameAfter, nameAt, qnameAfter, qnameAt, headerJudged, headerAt}
+use Rattle.fields.specs.Fields.{nameJudged, nameAt, qnameJudged, qnameAt, headerJudged, headerAt}
 use Rattle.fields.specs.declared.Name.{Name}
 use Rattle.fields.specs.declared.Name.the-variants as name
 use Rattle.fields.specs.declared.Qname as qnames
@@ -54,7 +54,7 @@ abbrev TextNot : declared.Text → Type 0
 TextNot (text.Is place units) = Unit
 TextNot (text.Refused n place) = 1 ≤ n
 
-text-by : (doc : List ℕ) (n : Number) → NumberNot n → TextNot (textAfter doc n)
+text-by : (doc : List ℕ) (n : Number) → NumberNot n → TextNot (textJudged doc n)
 text-by doc (number.Is units next) h = cond-if TextNot (leb (next + 2 * units) (length doc)) _ _ (λ t. tt) (λ t. omega arith)
 text-by doc (number.Refused n place) h = h
 
@@ -71,7 +71,7 @@ abbrev NameNot : Name → Type 0
 NameNot (name.Is value next) = Unit
 NameNot (name.Refused n place) = 1 ≤ n
 
-name-by : (known at : ℕ) (n : Number) → NumberNot n → NameNot (nameAfter known at n)
+name-by : (known at : ℕ) (n : Number) → NumberNot n → NameNot (nameJudged known at n)
 name-by known at (number.Is value next) h = cond-if NameNot (leb value known) _ _ (λ t. tt) (λ t. omega arith)
 name-by known at (number.Refused n place) h = h
 
@@ -83,7 +83,7 @@ abbrev QnameNot : qnames.Qname → Type 0
 QnameNot (qname.Is value next) = Unit
 QnameNot (qname.Refused n place) = 1 ≤ n
 
-qname-by : (known at : ℕ) (n : Number) → NumberNot n → QnameNot (qnameAfter known at n)
+qname-by : (known at : ℕ) (n : Number) → NumberNot n → QnameNot (qnameJudged known at n)
 qname-by known at (number.Is value next) h = cond-if QnameNot (leb 1 value && leb value known) _ _ (λ t. tt) (λ t. omega arith)
 qname-by known at (number.Refused n place) h = h
 

@@ -7,7 +7,8 @@ use mathlib.Core.List.{List, [], _∷_, _++_, map}
 use native.Mathlib.Omega.{arith}
 use lib.ListN.{length, getD, getElem?, drop}
 use lib.Seq.{getD-drop}
-use Rattle.sequences.specs.Lists.{overlay, Every, first, none}
+use Rattle.sequences.specs.Lists.{overlay}
+use Rattle.sequences.specs.Arrays.{Every, first, none}
 use Rattle.machine.specs.Machine.{NameRow, QnameRow, EventRow, nameRow, qnameRow, event, flatNames, flatQnames, flatEvents}
 use Rattle.machine.specs.Facts.{none, NameFits}
 use Rattle.machine.specs.Tables.{nameRowsIn, qnameRowsIn, eventRowsIn, NamesInside}

@@ -1,16 +1,10 @@
--- 01's H, a case of reading, and the tables of the programs.
+-- 01's H, and a case of reading.
 use Prim.Native.Nat.{ℕ}
 use mathlib.Core.List.{List, [], _∷_}
-use Rattle.scan.specs.declared.Room.{Room}
-use Rattle.token.specs.Tokens.{nameRows, qnameRows, eventRows}
 
 -- 01's H
 abbrev pub H : List ℕ
 H = 0xDF ∷ 0xFF ∷ 0x01 ∷ 0xB0 ∷ 0x04 ∷ []
-
--- tables at the full bounds
-abbrev pub full : Room
-full = record { names = nameRows; qnames = qnameRows; events = eventRows }
 
 -- a document, the answer number and its place
 pub record Case : Type 0 where

@@ -7,8 +7,8 @@ use mathlib.Core.Bool.{Bool, true, false, _||_}
 use mathlib.Core.List.{List, [], _∷_, _++_}
 use lib.Dec.{eqb}
 use lib.ListN.{length}
-use Rattle.sequences.specs.Lists.{Every}
-use Rattle.token.specs.Tokens.{classOf, shapeOf, XMLDECL-TOKEN, ENCODING-TOKEN, DOCTYPEDECL-TOKEN, SYSTEM-TOKEN, PUBLIC-TOKEN, SUBSET-TOKEN, COMMENT-TOKEN, CDATA-TOKEN, ELEMENT-TOKEN, ATTRIBUTE-TOKEN, XSD-QNAME, ENDELEMENT-TOKEN, ENDATTRIBUTES-TOKEN, CDATAEND-TOKEN, ENDNEST-TOKEN, PI-TOKEN, NEST-TOKEN}
+use Rattle.sequences.specs.Arrays.{Every}
+use Rattle.token.specs.Tokens.{mb32, classOf, shapeOf, XMLDECL-TOKEN, ENCODING-TOKEN, DOCTYPEDECL-TOKEN, SYSTEM-TOKEN, PUBLIC-TOKEN, SUBSET-TOKEN, COMMENT-TOKEN, CDATA-TOKEN, ELEMENT-TOKEN, ATTRIBUTE-TOKEN, XSD-QNAME, ENDELEMENT-TOKEN, ENDATTRIBUTES-TOKEN, CDATAEND-TOKEN, ENDNEST-TOKEN, PI-TOKEN, NEST-TOKEN}
 use Rattle.token.specs.declared.Class.the-variants as class
 use Rattle.value.specs.Fields.{textAt, fieldAt}
 use Rattle.value.specs.declared.Text.the-variants as text
@@ -45,10 +45,10 @@ pub data EventFits (doc : List ℕ) (names qnames : ℕ) : EventRow → ℕ → 
   -- the standalone byte: its value
   standalone : {place value : ℕ} → value ≤ 2 → EventFits doc names qnames (event 0 place value 0) (place + 1)
   -- FE, FD, FC, FB, FA, F9, F3, F2: place of the text, units
-  texted : {token place a units : ℕ} → oneOf textTokens token ≡ true → textAt 5 doc (place + 1) ≡ text.Is a units
+  texted : {token place a units : ℕ} → oneOf textTokens token ≡ true → textAt mb32 doc (place + 1) ≡ text.Is a units
       → EventFits doc names qnames (event token place a units) (a + 2 * units)
   -- F4: name row, place of the text's length
-  pi : {place row start p u : ℕ} → row ≤ names → place < start → textAt 5 doc start ≡ text.Is p u
+  pi : {place row start p u : ℕ} → row ≤ names → place < start → textAt mb32 doc start ≡ text.Is p u
       → EventFits doc names qnames (event PI-TOKEN place row start) (p + 2 * u)
   -- F8, F6, 8C: qname row
   reference : {token place row next : ℕ} → oneOf qnameTokens token ≡ true → 1 ≤ row → row ≤ qnames → place < next → next ≤ length doc

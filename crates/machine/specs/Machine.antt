@@ -5,7 +5,7 @@ use mathlib.Core.List.{List, [], _∷_, _++_, map}
 use mathlib.Core.Bool.{cond}
 use lib.Dec.{ltb, eqb}
 use lib.ListN.{length, getD, getElem?}
-use Rattle.token.specs.Tokens.{tooLong, longest, nameRows, qnameRows, eventRows, nameWidth, qnameWidth, eventWidth, NEST-TOKEN, ENDNEST-TOKEN, ELEMENT-TOKEN, PI-TOKEN, ENDELEMENT-TOKEN, XSD-QNAME, classOf}
+use Rattle.token.specs.Tokens.{mb32, tooLong, longest, nameRows, qnameRows, eventRows, nameWidth, qnameWidth, eventWidth, NEST-TOKEN, ENDNEST-TOKEN, ELEMENT-TOKEN, PI-TOKEN, ENDELEMENT-TOKEN, XSD-QNAME, classOf}
 use Rattle.fields.specs.Fields.{headerAt}
 use Rattle.fields.specs.declared.Header.{Header}
 use Rattle.fields.specs.declared.Header.the-variants as header
@@ -223,6 +223,10 @@ reading doc room = cond (ltb longest (length doc)) (result tooLong longest 0 bla
 abbrev pub roomIn : ℕ → ℕ → ℕ → Room
 roomIn names qnames events = record { names = min (names / nameWidth) nameRows; qnames = min (qnames / qnameWidth) qnameRows; events = min (events / eventWidth) eventRows }
 
+-- tables at the full bounds, as the programs lend them
+abbrev pub full : Room
+full = record { names = nameRows; qnames = qnameRows; events = eventRows }
+
 -- number, place, the three row counts and the outer version
 abbrev pub readAnswer : Result → Answer
 readAnswer r =
@@ -301,7 +305,7 @@ eventBy class.Element doc names qnames e = qnameEvent doc names qnames (e .token
 eventBy class.EndElement doc names qnames e = plain (e .token)
 eventBy class.Attribute doc names qnames e = qnameEvent doc names qnames (e .token) (e .a)
 eventBy class.EndAttributes doc names qnames e = plain (e .token)
-eventBy class.Pi doc names qnames e = pi (nameText doc names (e .a)) (dataIn doc (textAt 5 doc (e .b)))
+eventBy class.Pi doc names qnames e = pi (nameText doc names (e .a)) (dataIn doc (textAt mb32 doc (e .b)))
 eventBy class.Comment doc names qnames e = texted (e .token) (part doc (e .a) (2 * e .b))
 eventBy class.Cdata doc names qnames e = texted (e .token) (part doc (e .a) (2 * e .b))
 eventBy class.CdataEnd doc names qnames e = plain (e .token)

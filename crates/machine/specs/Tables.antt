@@ -3,7 +3,7 @@ use Prim.Native.Nat.{ℕ, zero, suc, _+_, _*_, _≤_, _<_}
 use mathlib.Core.List.{List, [], _∷_, map}
 use lib.ListN.{length, getD, drop}
 use Rattle.machine.specs.Machine.{NameRow, QnameRow, EventRow, nameRow, qnameRow, event, Event, eventOf}
-use Rattle.sequences.specs.Lists.{Every}
+use Rattle.sequences.specs.Arrays.{Every}
 use Rattle.machine.specs.Facts.{NameFits, QnameFits, Placed}
 use Rattle.token.specs.Tokens.{nameWidth, qnameWidth, eventWidth, longest, nameRows, qnameRows, eventRows}
 
@@ -14,15 +14,15 @@ classCount = 1025
 -- the rows that stand in the front of a lent table of numbers (01, "Rows")
 abbrev pub nameRowsIn : ℕ → List ℕ → List NameRow
 nameRowsIn zero l = []
-nameRowsIn (suc n) l = nameRow (getD l 0 0) (getD l 1 0) ∷ nameRowsIn n (drop 2 l)
+nameRowsIn (suc n) l = nameRow (getD l 0 0) (getD l 1 0) ∷ nameRowsIn n (drop nameWidth l)
 
 abbrev pub qnameRowsIn : ℕ → List ℕ → List QnameRow
 qnameRowsIn zero l = []
-qnameRowsIn (suc n) l = qnameRow (getD l 0 0) (getD l 1 0) (getD l 2 0) ∷ qnameRowsIn n (drop 3 l)
+qnameRowsIn (suc n) l = qnameRow (getD l 0 0) (getD l 1 0) (getD l 2 0) ∷ qnameRowsIn n (drop qnameWidth l)
 
 abbrev pub eventRowsIn : ℕ → List ℕ → List EventRow
 eventRowsIn zero l = []
-eventRowsIn (suc n) l = event (getD l 0 0) (getD l 1 0) (getD l 2 0) (getD l 3 0) ∷ eventRowsIn n (drop 4 l)
+eventRowsIn (suc n) l = event (getD l 0 0) (getD l 1 0) (getD l 2 0) (getD l 3 0) ∷ eventRowsIn n (drop eventWidth l)
 
 -- the events of so many rows, names by text
 unfoldable pub eventsIn : List ℕ → List ℕ → List ℕ → List ℕ → ℕ → ℕ → ℕ → List Event

@@ -5,7 +5,7 @@ use mathlib.Core.Bool.{Bool, cond}
 use mathlib.Core.List.{List}
 use lib.Dec.{leb}
 use lib.ListN.{length, getD}
-use Rattle.meaning.specs.Codes.{mark}
+use Rattle.meaning.specs.Codes.{mark, openingKind}
 use Rattle.marks.specs.Names.{pairOf, largestPair, declaresAt}
 use Rattle.token.specs.Tokens.{qnameRows}
 
@@ -25,7 +25,7 @@ declaredIn marks row = leb declaring (getD marks (row - 1) 0)
 
 -- the opening mark of row `row` of qnames, and 2 ^ 31 more where an attribute with this qname declares a prefix
 unfoldable pub markOf : List ℕ → List ℕ → List ℕ → List ℕ → ℕ → ℕ → ℕ
-markOf doc names qnames classes rows row = mark 0 (pairOf qnames classes row) + cond (declaresAt doc names qnames rows row) declaring 0
+markOf doc names qnames classes rows row = mark openingKind (pairOf qnames classes row) + cond (declaresAt doc names qnames rows row) declaring 0
 
 -- the table: at place row - 1 the mark of row `row`; the pairs are small, so that 2 ^ 31 more can be told from a mark alone
 pub record MarksOf (doc names qnames classes : List ℕ) (rows qrows : ℕ) (marks : List ℕ) : Type 0 where

@@ -5,7 +5,7 @@ use mathlib.Core.Path.{_≡_}
 use mathlib.Core.List.{List, [], _∷_, _++_}
 use lib.ListN.{length, getD}
 use Rattle.machine.specs.Machine.{nameText}
-use Rattle.sequences.specs.Lists.{Every}
+use Rattle.sequences.specs.Arrays.{Every}
 use Rattle.machine.specs.Facts.{NameFits}
 use Rattle.machine.specs.Tables.{nameRowsIn, classCount}
 use Rattle.form.specs.Canonical.{numberOf}

@@ -7,7 +7,8 @@ use mathlib.Core.List.{List, [], _∷_, _++_, map, append-assoc}
 use mathlib.Core.Bool.{Bool, true, false}
 use native.Mathlib.Omega.{arith}
 use lib.ListN.{length, getD, length-append, length-map}
-use Rattle.sequences.specs.Lists.{Bytes, same, Every, none, first, In, here, there}
+use Rattle.sequences.specs.Lists.{Bytes, same, In, here, there}
+use Rattle.sequences.specs.Arrays.{Every, none, first}
 use Rattle.sequences.proofs.Units.{bytes-none, bytes-first, bytes-rest}
 use Rattle.sequences.proofs.Same.{same-list}
 use Rattle.sequences.proofs.Members.{in-none, in-cons, in-either}

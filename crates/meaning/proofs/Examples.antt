@@ -9,11 +9,11 @@ use Rattle.rules.specs.Rules.{lawful}
 use Rattle.value.specs.Fields.{needed, textAt, extentAt, fieldAt}
 use Rattle.fields.specs.Fields.{nameAt, qnameAt, headerAt}
 use Rattle.scan.specs.Steps.{eventDue, textStep, nameStep, qnameStep, extensionStep, piStep, elementStep, attributeStep, valueStep, nestStep, classStep, tokenStep, declaredStep, endStep, stepAt}
-use Rattle.machine.specs.Machine.{run, reading, Event, texted, pi, qnamed, valued, nest, plain, nameText, eventOf, eventsOf}
-use Rattle.machine.specs.Examples.{H, full}
+use Rattle.machine.specs.Machine.{run, reading, Event, texted, pi, qnamed, valued, nest, plain, nameText, eventOf, eventsOf, full}
+use Rattle.machine.specs.Examples.{H}
 use Rattle.numeral.specs.Numeral.{lastDigits, digitsIn, digits, fraction, numeral}
 use Rattle.plan.specs.Text.{kindOf, signedText, shown, textOf}
-use Rattle.meaning.specs.Meaning.{unit, opening, ending, attribute, closing, value, qname, xmlns, declares, namedSymbols, plainSymbols, depthAfter, pieces, meanings, sameSymbol, sameMeaning, Pair, pair, equalTo, pairsFrom, pairsOf, no-value, one-value, Recut, no-event, event, values}
+use Rattle.meaning.specs.Meaning.{unit, opening, ending, attribute, closing, value, qname, xmlns, declares, namedSymbols, plainSymbols, depthAfter, pieces, meanings, sameSymbol, sameMeaning, Pair, pair, equalTo, pairsFrom, pairsOf, no-value, one-value, Recut, no-event, same-event, values}
 
 -- the text "p", an element and an attribute of that local name, and what ends them
 abbrev p : List ℕ
@@ -81,7 +81,7 @@ listing-pairs = refl
 listing-cut : Recut (element ∷ attr ∷ one ∷ b ∷ attrs-end ∷ end ∷ []) (element ∷ attr ∷ one-b ∷ attrs-end ∷ end ∷ [])
 unfolding shapeOf lawful kindOf shown textOf
 listing-cut =
-    event element (event attr (values {us = one ∷ b ∷ []} {vs = one-b ∷ []} (one-value refl (one-value refl no-value)) (one-value refl no-value) (event attrs-end (event end no-event))))
+    same-event element (same-event attr (values {us = one ∷ b ∷ []} {vs = one-b ∷ []} (one-value refl (one-value refl no-value)) (one-value refl no-value) (same-event attrs-end (same-event end no-event))))
 
 -- the meaning of a record: marks and units in their order; a value without text has a mark of its own
 whole-meaning :

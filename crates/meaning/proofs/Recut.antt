@@ -7,7 +7,7 @@ use mathlib.Core.List.{List, [], _∷_, _++_, map, append-assoc}
 use Rattle.sequences.specs.Lists.{unitsOf}
 use Rattle.machine.specs.Machine.{Event, texted, valued}
 use Rattle.plan.specs.Text.{textOf}
-use Rattle.meaning.specs.Meaning.{Symbol, unit, Attribute, none-open, counted, skipped, unless, symbolsOf, attributeAfter, begins, inside, depthAfter, onto, newIf, rest, pieces, meanings, ValueRun, no-value, one-value, ChunkRun, no-chunk, one-chunk, Recut, no-event, event, values, chunks}
+use Rattle.meaning.specs.Meaning.{Symbol, unit, Attribute, none-open, counted, skipped, unless, symbolsOf, attributeAfter, begins, inside, depthAfter, onto, newIf, rest, pieces, meanings, ValueRun, no-value, one-value, ChunkRun, no-chunk, one-chunk, Recut, no-event, same-event, values, chunks}
 
 map-append : (us vs : List ℕ) → map unit (us ++ vs) ≡ map unit us ++ map unit vs
 map-append [] vs = refl
@@ -85,7 +85,7 @@ event-adds depth q e es fs h = ap (λ (ps : List (List Symbol)). newIf (begins d
 
 recut-pieces : (depth : ℕ) (q : Attribute) {es fs : List Event} → Recut es fs → pieces depth q es ≡ pieces depth q fs
 recut-pieces depth q no-event = refl
-recut-pieces depth q (event e {es} {fs} r) = event-adds depth q e es fs (recut-pieces (depthAfter depth e) (attributeAfter q e) r)
+recut-pieces depth q (same-event e {es} {fs} r) = event-adds depth q e es fs (recut-pieces (depthAfter depth e) (attributeAfter q e) r)
 recut-pieces depth q (values {us} {vs} {es} {fs} {joined} a b r) =
     run-adds depth q es a ∙ ap (onto (added depth (unless q (map unit joined)))) (recut-pieces depth q r) ∙ sym (run-adds depth q fs b)
 recut-pieces depth q (chunks {us} {vs} {es} {fs} {joined} a b r) =

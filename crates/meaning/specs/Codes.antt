@@ -16,6 +16,29 @@ firstMark = 65536
 abbrev pub markKinds : ℕ
 markKinds = 8
 
+-- of an element, of an attribute and of XSD-QNAME, each with names; the end mark and the closing mark; the token of a value without
+-- text, and a byte of its payload
+abbrev pub openingKind : ℕ
+openingKind = 0
+
+abbrev pub attributeKind : ℕ
+attributeKind = 1
+
+abbrev pub qnameKind : ℕ
+qnameKind = 2
+
+abbrev pub endKind : ℕ
+endKind = 3
+
+abbrev pub closingKind : ℕ
+closingKind = 4
+
+abbrev pub tokenKind : ℕ
+tokenKind = 5
+
+abbrev pub byteKind : ℕ
+byteKind = 6
+
 -- a mark: its kind and its payload; a unit is below every mark
 unfoldable pub mark : ℕ → ℕ → ℕ
 mark kind payload = firstMark + markKinds * payload + kind
@@ -27,12 +50,12 @@ both cls uri local = classCount * cls uri + cls local
 -- one number for a symbol, and one more for each byte of a value without text
 abbrev pub codeOf : (List ℕ → ℕ) → Symbol → List ℕ
 codeOf cls (unit u) = u ∷ []
-codeOf cls (opening uri local) = mark 0 (both cls uri local) ∷ []
-codeOf cls (attribute uri local) = mark 1 (both cls uri local) ∷ []
-codeOf cls (qname uri local) = mark 2 (both cls uri local) ∷ []
-codeOf cls ending = mark 3 0 ∷ []
-codeOf cls closing = mark 4 0 ∷ []
-codeOf cls (value token payload) = mark 5 token ∷ map (mark 6) payload
+codeOf cls (opening uri local) = mark openingKind (both cls uri local) ∷ []
+codeOf cls (attribute uri local) = mark attributeKind (both cls uri local) ∷ []
+codeOf cls (qname uri local) = mark qnameKind (both cls uri local) ∷ []
+codeOf cls ending = mark endKind 0 ∷ []
+codeOf cls closing = mark closingKind 0 ∷ []
+codeOf cls (value token payload) = mark tokenKind token ∷ map (mark byteKind) payload
 
 -- the codes of a meaning, one after the other
 unfoldable pub codesOf : (List ℕ → ℕ) → List Symbol → List ℕ

@@ -243,7 +243,7 @@ pub data ChunkRun : List Event → List ℕ → Type 0 where
 -- the same events, except for how such runs are cut
 pub data Recut : List Event → List Event → Type 0 where
   no-event : Recut [] []
-  event : (e : Event) {es fs : List Event} → Recut es fs → Recut (e ∷ es) (e ∷ fs)
+  same-event : (e : Event) {es fs : List Event} → Recut es fs → Recut (e ∷ es) (e ∷ fs)
   values : {us vs es fs : List Event} {joined : List ℕ}
       → ValueRun us joined → ValueRun vs joined → Recut es fs → Recut (us ++ es) (vs ++ fs)
   chunks : {us vs es fs : List Event} {joined : List ℕ}

@@ -3,11 +3,11 @@ use Prim.Native.Nat.{ℕ}
 use mathlib.Core.Path.{_≡_, refl}
 use mathlib.Core.Bool.{_||_}
 use lib.Dec.{leb, eqb}
-use Rattle.modes.specs.Modes.{content, listing, inDeclaration, numberOf}
+use Rattle.modes.specs.Modes.{content, inAttributes, inDeclaration, modeNumber}
 use Rattle.modes.specs.declared.Mode.{Mode}
 use Rattle.modes.specs.declared.Mode.the-variants.{Content, Tag, First, Prolog, AfterDocType, AfterSystem, AfterPublic, Attributes, Cdata, AfterXmlDecl, AfterEncoding}
 
-pub content-is : (m : Mode) → leb (numberOf m) 6 ≡ content m
+pub content-is : (m : Mode) → leb (modeNumber m) 6 ≡ content m
 content-is Content = refl
 content-is Tag = refl
 content-is First = refl
@@ -20,7 +20,7 @@ content-is Cdata = refl
 content-is AfterXmlDecl = refl
 content-is AfterEncoding = refl
 
-pub listing-is : (m : Mode) → eqb (numberOf m) 7 ≡ listing m
+pub listing-is : (m : Mode) → eqb (modeNumber m) 7 ≡ inAttributes m
 listing-is Content = refl
 listing-is Tag = refl
 listing-is First = refl
@@ -33,7 +33,7 @@ listing-is Cdata = refl
 listing-is AfterXmlDecl = refl
 listing-is AfterEncoding = refl
 
-pub either-is : (m : Mode) → leb (numberOf m) 7 ≡ (content m || listing m)
+pub either-is : (m : Mode) → leb (modeNumber m) 7 ≡ (content m || inAttributes m)
 either-is Content = refl
 either-is Tag = refl
 either-is First = refl
@@ -46,7 +46,7 @@ either-is Cdata = refl
 either-is AfterXmlDecl = refl
 either-is AfterEncoding = refl
 
-pub declares-is : (m : Mode) → leb 9 (numberOf m) ≡ inDeclaration m
+pub declares-is : (m : Mode) → leb 9 (modeNumber m) ≡ inDeclaration m
 declares-is Content = refl
 declares-is Tag = refl
 declares-is First = refl
@@ -60,15 +60,15 @@ declares-is AfterXmlDecl = refl
 declares-is AfterEncoding = refl
 
 -- the tests that the code makes on a mode's number
-module _ (mode : Mode) {m : ℕ} (e : m ≡ numberOf mode) where
+module _ (mode : Mode) {m : ℕ} (e : m ≡ modeNumber mode) where
   pub in-content : leb m 6 ≡ content mode
   in-content = rw e (content-is mode)
 
-  pub in-list : eqb m 7 ≡ listing mode
+  pub in-list : eqb m 7 ≡ inAttributes mode
   in-list = rw e (listing-is mode)
 
-  pub in-either : leb m 7 ≡ (content mode || listing mode)
+  pub in-either : leb m 7 ≡ (content mode || inAttributes mode)
   in-either = rw e (either-is mode)
 
-  pub in-mode : (n : ℕ) → eqb m n ≡ eqb (numberOf mode) n
+  pub in-mode : (n : ℕ) → eqb m n ≡ eqb (modeNumber mode) n
   in-mode n = rw e

@@ -23,18 +23,18 @@ content AfterXmlDecl = false
 content AfterEncoding = false
 
 -- from an ATTRIBUTE to ENDATTRIBUTES
-abbrev pub listing : Mode → Bool
-listing Content = false
-listing Tag = false
-listing First = false
-listing Prolog = false
-listing AfterDocType = false
-listing AfterSystem = false
-listing AfterPublic = false
-listing Attributes = true
-listing Cdata = false
-listing AfterXmlDecl = false
-listing AfterEncoding = false
+abbrev pub inAttributes : Mode → Bool
+inAttributes Content = false
+inAttributes Tag = false
+inAttributes First = false
+inAttributes Prolog = false
+inAttributes AfterDocType = false
+inAttributes AfterSystem = false
+inAttributes AfterPublic = false
+inAttributes Attributes = true
+inAttributes Cdata = false
+inAttributes AfterXmlDecl = false
+inAttributes AfterEncoding = false
 
 -- inside an XML declaration: the next byte is no token
 abbrev pub inDeclaration : Mode → Bool
@@ -51,27 +51,27 @@ inDeclaration AfterXmlDecl = true
 inDeclaration AfterEncoding = true
 
 -- a mode's number, to compare two of them
-abbrev pub numberOf : Mode → ℕ
-numberOf Content = 0
-numberOf Tag = 1
-numberOf First = 2
-numberOf Prolog = 3
-numberOf AfterDocType = 4
-numberOf AfterSystem = 5
-numberOf AfterPublic = 6
-numberOf Attributes = 7
-numberOf Cdata = 8
-numberOf AfterXmlDecl = 9
-numberOf AfterEncoding = 10
+abbrev pub modeNumber : Mode → ℕ
+modeNumber Content = 0
+modeNumber Tag = 1
+modeNumber First = 2
+modeNumber Prolog = 3
+modeNumber AfterDocType = 4
+modeNumber AfterSystem = 5
+modeNumber AfterPublic = 6
+modeNumber Attributes = 7
+modeNumber Cdata = 8
+modeNumber AfterXmlDecl = 9
+modeNumber AfterEncoding = 10
 
 abbrev pub is : Mode → Mode → Bool
-is m n = eqb (numberOf m) (numberOf n)
+is m n = eqb (modeNumber m) (modeNumber n)
 
 -- a token of this class may stand here
 abbrev pub allowed : Class → View → Bool
 allowed class.Unknown v = false
-allowed class.Value v = content (v .mode) || listing (v .mode)
-allowed class.LaterValue v = (content (v .mode) || listing (v .mode)) && eqb (v .version) 2
+allowed class.Value v = content (v .mode) || inAttributes (v .mode)
+allowed class.LaterValue v = (content (v .mode) || inAttributes (v .mode)) && eqb (v .version) 2
 allowed class.XmlDecl v = is (v .mode) First
 allowed class.Encoding v = false
 allowed class.DocType v = is (v .mode) First || is (v .mode) Prolog
@@ -80,18 +80,18 @@ allowed class.Public v = is (v .mode) AfterDocType || is (v .mode) AfterSystem
 allowed class.Subset v = is (v .mode) AfterDocType || is (v .mode) AfterSystem || is (v .mode) AfterPublic
 allowed class.Element v = content (v .mode)
 allowed class.EndElement v = content (v .mode) && ltb 0 (v .elements)
-allowed class.Attribute v = is (v .mode) Tag || listing (v .mode)
-allowed class.EndAttributes v = listing (v .mode)
+allowed class.Attribute v = is (v .mode) Tag || inAttributes (v .mode)
+allowed class.EndAttributes v = inAttributes (v .mode)
 allowed class.Pi v = content (v .mode)
 allowed class.Comment v = content (v .mode)
 allowed class.Cdata v = content (v .mode) || is (v .mode) Cdata
 allowed class.CdataEnd v = is (v .mode) Cdata
-allowed class.NameDef v = content (v .mode) || listing (v .mode)
-allowed class.QnameDef v = content (v .mode) || listing (v .mode)
+allowed class.NameDef v = content (v .mode) || inAttributes (v .mode)
+allowed class.QnameDef v = content (v .mode) || inAttributes (v .mode)
 allowed class.Nest v = content (v .mode)
 allowed class.EndNest v = content (v .mode) && ltb 0 (v .depth) && eqb (v .elements) 0
-allowed class.Extension v = content (v .mode) || listing (v .mode)
-allowed class.Flush v = content (v .mode) || listing (v .mode)
+allowed class.Extension v = content (v .mode) || inAttributes (v .mode)
+allowed class.Flush v = content (v .mode) || inAttributes (v .mode)
 
 -- after metadata: DOCTYPEDECL and ATTRIBUTE stay possible
 abbrev pub afterMetadata : Mode → Mode

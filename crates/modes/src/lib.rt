@@ -2,7 +2,7 @@
 ghost use mathlib.Core.Path.{_≡_};
 ghost use Prim.Native.Nat.{_<_};
 ghost use mathlib.Core.Bool.{_&&_, _||_};
-ghost use Rattle.modes.specs.Modes.{numberOf, allowed, afterMetadata, afterMisc, afterValue};
+ghost use Rattle.modes.specs.Modes.{modeNumber, allowed, afterMetadata, afterMisc, afterValue};
 use token::Class;
 
 // Modes by their numbers, to compare two of them: up to AFTER_PUBLIC content may stand, up to ATTRIBUTES values and metadata.
@@ -66,8 +66,8 @@ pub struct View {
     pub events: usize,
 }
 
-pub fn number_of(mode: Mode) -> usize
-    ensures { λ r. ⌜ r ≡ numberOf mode ⌝ }
+pub fn mode_number(mode: Mode) -> usize
+    ensures { λ r. ⌜ r ≡ modeNumber mode ⌝ }
 {
     match mode {
         Mode::Content => CONTENT,
@@ -155,7 +155,7 @@ pub fn may_stand(class: Class, v: View) -> bool
     ensures { λ r. ⌜ r ≡ allowed class v ⌝ }
 {
     let mode = v.mode;
-    let m = number_of(mode);
+    let m = mode_number(mode);
     match class {
         Class::Unknown => false,
         Class::Value => m <= ATTRIBUTES,

@@ -9,7 +9,8 @@ use native.Mathlib.Numerals.{add-one}
 use lib.Dec.{eqb, ltb}
 use lib.ListN.{length, getD, getElem?, set}
 use borrow.Author.Tests.{eqb-true, eqb-false}
-use Rattle.sequences.specs.Lists.{Front, part, same}
+use Rattle.sequences.specs.Lists.{part, same}
+use Rattle.sequences.specs.Arrays.{Front}
 use Rattle.sequences.proofs.Overlay.{part-length}
 use Rattle.sequences.proofs.Tests.{cond-if}
 use Rattle.machine.specs.Tables.{nameRowsIn, NamesInside}

@@ -5,7 +5,7 @@ use mathlib.Core.Bool.{cond}
 use mathlib.Core.List.{List, [], _∷_}
 use lib.Dec.{ltb, leb}
 use lib.ListN.{length, drop}
-use Rattle.token.specs.Tokens.{missing, badNumber, largest}
+use Rattle.token.specs.Tokens.{missing, badNumber, largest, mb32}
 use Rattle.number.specs.declared.Number.{Number}
 use Rattle.number.specs.declared.Number.the-variants.{Is, Refused}
 
@@ -39,7 +39,7 @@ front zero l = unended
 front (suc most) [] = cut
 front (suc most) (b ∷ l) = cond (ltb b 128) (spelled b 1) (after b (front most l))
 
--- 01: a value over 2,147,483,647 is numberJudged when the number has ended; the place of 4 is the number's first byte
+-- 01: a value over 2,147,483,647 is judged when the number has ended; the place of 4 is the number's first byte
 abbrev pub numberJudged : List ℕ → ℕ → NumberFront → Number
 numberJudged doc at (spelled value size) = cond (leb value largest) (Is value (at + size)) (Refused badNumber at)
 numberJudged doc at unended = Refused badNumber at
@@ -55,7 +55,7 @@ spellIn zero value = []
 spellIn (suc most) value = cond (ltb value 128) (value ∷ []) ((128 + value % 128) ∷ spellIn most (value / 128))
 
 unfoldable pub shortest : ℕ → List ℕ
-shortest value = spellIn 5 value
+shortest value = spellIn mb32 value
 
 -- 004, section 2.3.2, the table of ranges: how many bytes store a value
 unfoldable pub sizeOf : ℕ → ℕ

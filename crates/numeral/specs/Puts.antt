@@ -8,6 +8,13 @@ use Rattle.chunks.specs.declared.Chunks.{Chunks}
 use Rattle.numeral.specs.Numeral.{fraction}
 use Rattle.chunks.specs.Chunks.{chunksValue, Chunked}
 
+-- the units and the bytes of the small buffer that a text is made in: as many as a number's text has at most (01, "Text of a value")
+abbrev pub smallUnits : ℕ
+smallUnits = 41
+
+abbrev pub smallBytes : ℕ
+smallBytes = 82
+
 -- one unit below 256 was put at place `at`, counted in units, and all that stands after it is as it was
 pub record UnitPut (before after : List ℕ) (at unit : ℕ) : Type 0 where
   pub is : drop (2 * at) after ≡ unit ∷ 0 ∷ drop (2 * (at + 1)) before
@@ -19,11 +26,11 @@ pub record UnitsPut (before after units : List ℕ) (end at : ℕ) : Type 0 wher
   pub place : at + length units ≡ end
   pub long : length after ≡ length before
 
--- the 82 bytes end with the text `units`, which begins at place `at`, counted in units
+-- the small buffer ends with the text `units`, which begins at place `at`, counted in units
 pub record Ends (small units : List ℕ) (at : ℕ) : Type 0 where
   pub there : drop (2 * at) small ≡ bytesOf units
-  pub place : at + length units ≡ 41
-  pub long : length small ≡ 82
+  pub place : at + length units ≡ smallUnits
+  pub long : length small ≡ smallBytes
 
 -- the fraction of n stands at the end, from place `at` on, and `above` is what stands before the point
 pub record FractionPut (small : List ℕ) (n : Chunks) (scale : ℕ) (above : Chunks) (at : ℕ) : Type 0 where

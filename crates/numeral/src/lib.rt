@@ -7,8 +7,13 @@ ghost use lib.Dec.{eqb};
 ghost use Rattle.sequences.specs.Lists.{overlay};
 ghost use Rattle.numeral.specs.Numeral.{digits, numeral, truth};
 ghost use Rattle.chunks.specs.Chunks.{chunksValue, Chunked};
-ghost use Rattle.numeral.specs.Puts.{UnitPut, UnitsPut, Ends, FractionPut};
+ghost use Rattle.numeral.specs.Puts.{smallUnits, smallBytes, UnitPut, UnitsPut, Ends, FractionPut};
 use chunks::Chunks;
+
+// Units and bytes of the small buffer that a text is made in: as many as a number's text has at most.
+pub const SMALL_UNITS: usize = 41;
+
+pub const SMALL_BYTES: usize = 82;
 
 // A number whose digits are still to be written, and the unit before which they end.
 struct Unwritten {
@@ -60,8 +65,8 @@ fn is_zero(n: Chunks) -> bool
 }
 
 // Puts one unit at place `at`, counted in units. Text is made from the right, since its length is not known before.
-fn put(small: &mut [u8; 82], at: usize, unit: u8)
-    requires { ⌜ (at < 41) × (length (now small) ≡ 82) ⌝ }
+fn put(small: &mut [u8; SMALL_BYTES], at: usize, unit: u8)
+    requires { ⌜ (at < smallUnits) × (length (now small) ≡ smallBytes) ⌝ }
     ensures { λ _. ⌜ UnitPut (now (small .entry)) (now (small .exit)) at unit ⌝ }
 {
     small[2 * at] = unit;
@@ -69,11 +74,11 @@ fn put(small: &mut [u8; 82], at: usize, unit: u8)
 }
 
 // Puts the point and the last `scale` digits of n at the end of small; gives what stands before the point, unwritten.
-fn put_fraction(n: Chunks, scale: usize, small: &mut [u8; 82]) -> Unwritten
-    requires { ⌜ Chunked n × (scale ≤ 38) × (length (now small) ≡ 82) ⌝ }
+fn put_fraction(n: Chunks, scale: usize, small: &mut [u8; SMALL_BYTES]) -> Unwritten
+    requires { ⌜ Chunked n × (scale ≤ 38) × (length (now small) ≡ smallBytes) ⌝ }
     ensures { λ r. ⌜ FractionPut (now (small .exit)) n scale (r .number) (r .end) ⌝ }
 {
-    let mut at: usize = 41;
+    let mut at: usize = SMALL_UNITS;
     let mut v = n;
     let mut k = scale;
     while 0 < k {
@@ -91,8 +96,8 @@ fn put_fraction(n: Chunks, scale: usize, small: &mut [u8; 82]) -> Unwritten
 }
 
 // Puts all digits of n, so that they end before unit `end`; gives the unit at which they begin.
-fn put_chunks(n: Chunks, end: usize, small: &mut [u8; 82]) -> usize
-    requires { ⌜ Chunked n × (2 ≤ end) × (end ≤ 41) × (chunksValue n < 10 ^ (end - 1)) × (length (now small) ≡ 82) ⌝ }
+fn put_chunks(n: Chunks, end: usize, small: &mut [u8; SMALL_BYTES]) -> usize
+    requires { ⌜ Chunked n × (2 ≤ end) × (end ≤ smallUnits) × (chunksValue n < 10 ^ (end - 1)) × (length (now small) ≡ smallBytes) ⌝ }
     ensures { λ r. ⌜ UnitsPut (now (small .entry)) (now (small .exit)) (digits (chunksValue n)) end r × (1 ≤ r) ⌝ }
 {
     let mut at = end;
@@ -109,8 +114,8 @@ fn put_chunks(n: Chunks, end: usize, small: &mut [u8; 82]) -> usize
 }
 
 // The same for a number of one chunk: a digit costs one division and no move of the chunks above.
-fn put_word(n: u64, end: usize, small: &mut [u8; 82]) -> usize
-    requires { ⌜ (2 ≤ end) × (end ≤ 41) × (n < 10 ^ (end - 1)) × (length (now small) ≡ 82) ⌝ }
+fn put_word(n: u64, end: usize, small: &mut [u8; SMALL_BYTES]) -> usize
+    requires { ⌜ (2 ≤ end) × (end ≤ smallUnits) × (n < 10 ^ (end - 1)) × (length (now small) ≡ smallBytes) ⌝ }
     ensures { λ r. ⌜ UnitsPut (now (small .entry)) (now (small .exit)) (digits n) end r × (1 ≤ r) ⌝ }
 {
     let mut at = end;
@@ -127,8 +132,8 @@ fn put_word(n: u64, end: usize, small: &mut [u8; 82]) -> usize
 }
 
 // The same for any number, by the shorter of the two ways.
-fn put_whole(n: Chunks, end: usize, small: &mut [u8; 82]) -> usize
-    requires { ⌜ Chunked n × (2 ≤ end) × (end ≤ 41) × (chunksValue n < 10 ^ (end - 1)) × (length (now small) ≡ 82) ⌝ }
+fn put_whole(n: Chunks, end: usize, small: &mut [u8; SMALL_BYTES]) -> usize
+    requires { ⌜ Chunked n × (2 ≤ end) × (end ≤ smallUnits) × (chunksValue n < 10 ^ (end - 1)) × (length (now small) ≡ smallBytes) ⌝ }
     ensures { λ r. ⌜ UnitsPut (now (small .entry)) (now (small .exit)) (digits (chunksValue n)) end r × (1 ≤ r) ⌝ }
 {
     if n.mid == 0 {
@@ -140,8 +145,8 @@ fn put_whole(n: Chunks, end: usize, small: &mut [u8; 82]) -> usize
 }
 
 // Puts the text of n / 10^scale, below zero where `minus` says so, at the end of small; gives the unit at which it begins.
-pub fn render(minus: bool, n: Chunks, scale: usize, small: &mut [u8; 82]) -> usize
-    requires { ⌜ Chunked n × (scale ≤ 38) × (chunksValue n < 10 ^ 39) × (length (now small) ≡ 82) ⌝ }
+pub fn render(minus: bool, n: Chunks, scale: usize, small: &mut [u8; SMALL_BYTES]) -> usize
+    requires { ⌜ Chunked n × (scale ≤ 38) × (chunksValue n < 10 ^ 39) × (length (now small) ≡ smallBytes) ⌝ }
     ensures { λ r. ⌜ Ends (now (small .exit)) (numeral minus (chunksValue n) scale) r ⌝ }
 {
     let above = put_fraction(n, scale, small);
@@ -157,8 +162,8 @@ pub fn render(minus: bool, n: Chunks, scale: usize, small: &mut [u8; 82]) -> usi
 }
 
 // Puts "true" or "false" at the end of small; gives the unit at which it begins.
-pub fn render_truth(yes: bool, small: &mut [u8; 82]) -> usize
-    requires { ⌜ length (now small) ≡ 82 ⌝ }
+pub fn render_truth(yes: bool, small: &mut [u8; SMALL_BYTES]) -> usize
+    requires { ⌜ length (now small) ≡ smallBytes ⌝ }
     ensures { λ r. ⌜ Ends (now (small .exit)) (truth yes) r ⌝ }
 {
     put(small, 40, 101);
@@ -176,11 +181,11 @@ pub fn render_truth(yes: bool, small: &mut [u8; 82]) -> usize
 }
 
 // Copies the bytes of small from `from` on to the front of out.
-pub fn copy_from(small: &[u8; 82], from: usize, out: &mut [u8])
-    requires { ⌜ (from ≤ 82) × (length (now small) ≡ 82) × (82 - from ≤ length (now out)) ⌝ }
+pub fn copy_from(small: &[u8; SMALL_BYTES], from: usize, out: &mut [u8])
+    requires { ⌜ (from ≤ smallBytes) × (length (now small) ≡ smallBytes) × (smallBytes - from ≤ length (now out)) ⌝ }
     ensures { λ _. ⌜ now (out .exit) ≡ overlay (drop from (now (small .entry))) (now (out .entry)) ⌝ }
 {
-    let need = 82 - from;
+    let need = SMALL_BYTES - from;
     let mut i = 0;
     while i < need {
         out[i] = small[from + i];

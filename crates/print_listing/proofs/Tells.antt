@@ -8,8 +8,7 @@ use Rattle.numeral.specs.Numeral.{unlessZero, digitsIn, digits}
 use Rattle.numeral.proofs.Facts.{readFrom, digits-read-back}
 use Rattle.meaning.specs.Meaning.{Pair, pair}
 use Rattle.print_lines.specs.Lines.{line}
-use Rattle.machine.specs.Machine.{reading}
-use Rattle.machine.specs.Examples.{full}
+use Rattle.machine.specs.Machine.{reading, full}
 use Rattle.lister_contract.specs.Contract.{listAnswer, pairsIn}
 use Rattle.print_listing.specs.Printed.{recordsWord, pairsWord, pairLines, answerLines, printed}
 

@@ -5,8 +5,7 @@ use mathlib.Core.List.{List, [], _∷_, _++_}
 use lib.ListN.{length, take, drop}
 use Rattle.sequences.specs.Lists.{overlay}
 use Rattle.sequences.proofs.Tests.{tests}
-use Rattle.machine.specs.Machine.{reading, roomIn}
-use Rattle.machine.specs.Examples.{full}
+use Rattle.machine.specs.Machine.{reading, roomIn, full}
 use Rattle.meaning.specs.Meaning.{Pair, flatPairs}
 use Rattle.lister_contract.specs.declared.Answer.{Answer}
 use Rattle.lister_contract.specs.Contract.{pairsIn, pairRoom, listOf, Lists}

@@ -8,8 +8,7 @@ use lib.Dec.{eqb}
 use lib.ListN.{getD, drop}
 use Rattle.token.specs.Tokens.{accepted}
 use Rattle.print_lines.specs.Lines.{line, refusedWord, atWord}
-use Rattle.machine.specs.Machine.{reading}
-use Rattle.machine.specs.Examples.{full}
+use Rattle.machine.specs.Machine.{reading, full}
 use Rattle.meaning.specs.Meaning.{Pair, pair}
 use Rattle.lister_contract.specs.declared.Answer.{Answer}
 use Rattle.lister_contract.specs.Contract.{listAnswer, pairsIn, listOf}

@@ -4,8 +4,7 @@ use mathlib.Core.Path.{_≡_, refl}
 use mathlib.Core.List.{List, _++_}
 use native.Mathlib.Omega.{arith}
 use lib.ListN.{length, take}
-use Rattle.machine.specs.Machine.{reading, roomIn, Reads}
-use Rattle.machine.specs.Examples.{full}
+use Rattle.machine.specs.Machine.{reading, roomIn, Reads, full}
 use Rattle.machine.specs.Tables.{nameRowsIn, qnameRowsIn, eventRowsIn}
 use Rattle.machine.specs.declared.Answer.{Answer}
 use Rattle.filled.proofs.Rooms.{rows-few}

@@ -6,8 +6,7 @@ use mathlib.Core.Bool.{cond}
 use mathlib.Core.List.{List, [], _∷_, _++_}
 use lib.Dec.{eqb}
 use Rattle.token.specs.Tokens.{accepted}
-use Rattle.machine.specs.Machine.{Result, reading, readAnswer}
-use Rattle.machine.specs.Examples.{full}
+use Rattle.machine.specs.Machine.{Result, reading, readAnswer, full}
 use Rattle.machine.specs.declared.Answer.{Answer}
 use Rattle.print_lines.specs.Lines.{field, acceptedWord, refusedWord, atWord}
 use Rattle.print_rows.specs.Rows.{rowLines}

@@ -8,7 +8,7 @@ use native.Mathlib.Omega.{arith}
 use native.Mathlib.Numerals.{add-one}
 use lib.Dec.{ltb}
 use lib.ListN.{length, getD, getElem?, set}
-use Rattle.sequences.specs.Lists.{Front, Every}
+use Rattle.sequences.specs.Arrays.{Front, Every}
 use Rattle.sequences.proofs.Overlay.{front-at}
 use Rattle.machine.specs.Machine.{NameRow, QnameRow, qnameRow, nameText}
 use Rattle.machine.specs.Facts.{QnameFits}

@@ -2,7 +2,7 @@
 ghost use mathlib.Core.Path.{_≡_};
 ghost use Prim.Native.Nat.{_+_, _*_, _%_, _≤_, _<_};
 ghost use lib.ListN.{length, getD};
-ghost use Rattle.sequences.specs.Lists.{Front, Every};
+ghost use Rattle.sequences.specs.Arrays.{Front, Every};
 ghost use Rattle.machine.specs.Facts.{QnameFits};
 ghost use Rattle.machine.specs.Tables.{nameRowsIn, qnameRowsIn};
 ghost use Rattle.classes.specs.Classes.{nameClasses, qnameClasses};

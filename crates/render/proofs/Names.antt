@@ -4,7 +4,7 @@ use mathlib.Core.Path.{_≡_, refl, sym, _∙_, ap}
 use mathlib.Core.List.{List}
 use native.Mathlib.Omega.{arith}
 use lib.ListN.{length, getD}
-use Rattle.sequences.specs.Lists.{Front}
+use Rattle.sequences.specs.Arrays.{Front}
 use Rattle.sequences.proofs.Overlay.{front-at}
 use Rattle.machine.specs.Machine.{NameRow, qnameRow, qnamed, nameText, qnameEvent}
 use Rattle.machine.specs.Facts.{QnameFits}

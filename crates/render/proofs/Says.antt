@@ -9,7 +9,8 @@ use native.Mathlib.Omega.{arith}
 use lib.Dec.{eqb, leb}
 use lib.ListN.{length, getD, length-append, length-map, length-take}
 use borrow.Author.Tests.{eqb-true, eq-eqb, ne-eqb, leb-true, leb-false}
-use Rattle.sequences.specs.Lists.{Bytes, part, unitsOf, none, first}
+use Rattle.sequences.specs.Lists.{Bytes, part, unitsOf}
+use Rattle.sequences.specs.Arrays.{none, first}
 use Rattle.sequences.proofs.Units.{bytes-take, bytes-drop}
 use Rattle.token.specs.Tokens.{classOf, shapeOf}
 use Rattle.token.specs.declared.Class.the-variants as class

@@ -3,7 +3,7 @@ use Prim.Native.Nat.{ℕ, _+_, _*_, _≤_, _<_}
 use mathlib.Core.Path.{_≡_}
 use mathlib.Core.List.{List, map}
 use lib.ListN.{length, getD}
-use Rattle.sequences.specs.Lists.{Front}
+use Rattle.sequences.specs.Arrays.{Front}
 use Rattle.machine.specs.Tables.{nameRowsIn, eventsIn, Filled}
 use Rattle.classes.specs.Classes.{nameClasses}
 use Rattle.meaning.specs.Meaning.{meanings}
@@ -13,10 +13,6 @@ use Rattle.hash.specs.Hash.{hashOf}
 use Rattle.marks.specs.Names.{classIn}
 use Rattle.token.specs.Tokens.{nameRows}
 use Rattle.twins.specs.Search.{mostParts, partBounds}
-
--- the tokens of values are below this, and no other token is
-abbrev pub valuesEnd : ℕ
-valuesEnd = 0xA0
 
 -- the tables after an accepted reading, and the classes of the names
 pub record Renderable (doc names qnames events classes : List ℕ) (rows qrows count : ℕ) : Type 0 where

@@ -4,11 +4,11 @@ ghost use mathlib.Core.Path.{_≡_};
 ghost use Prim.Native.Nat.{_+_, _-_, _*_, _≤_, _<_};
 ghost use lib.ListN.{length, getD};
 ghost use Rattle.sequences.specs.Lists.{part, unitsOf};
-ghost use Rattle.base64.specs.Base64.{Alphabet};
+ghost use Rattle.base64.specs.Letters.{Alphabet};
 ghost use Rattle.symbols.specs.Store.{PutHashed};
-ghost use Rattle.render_elements.specs.Codes.{countedBy, valueBy, unlessOut, rowBy, depthBy, attributeBy, roomBy, RowFits};
+ghost use Rattle.render_elements.specs.Codes.{valuesEnd, countedBy, valueBy, unlessOut, rowBy, depthBy, attributeBy, roomBy, RowFits};
 ghost use Rattle.render_elements.specs.Effects.{RowPut, RowDone};
-ghost use Rattle.render.specs.Render.{Renderable, Rendered, roomFor, valuesEnd};
+ghost use Rattle.render.specs.Render.{Renderable, Rendered, roomFor};
 ghost use Rattle.token.specs.Tokens.{ELEMENT-TOKEN, ENDELEMENT-TOKEN, eventWidth, eventRows};
 ghost use Rattle.twins.specs.Search.{partBounds};
 use render_elements::Progress;
@@ -61,7 +61,11 @@ fn put_valued(
     ensures { λ r. ⌜ PutHashed (now (syms .entry)) i (countedBy (now (doc .entry)) (now (marks .entry)) token a b) (now (syms .exit)) r ⌝ }
 {
     if token == QNAME {
-        return symbols::put_one(syms, i, marks[a - 1] % marks::DECLARING + 2);
+        return symbols::put_one(
+            syms,
+            i,
+            marks[a - 1] % marks::DECLARING + meaning::QNAME_KIND,
+        );
     }
     if token == 0 {
         return i;
@@ -88,7 +92,7 @@ fn put_value(
     if p.depth == 0 {
         return p;
     }
-    if p.attribute == 2 {
+    if p.attribute == render_elements::SKIPPED_OPEN {
         return p;
     }
     render_elements::moved(
@@ -192,7 +196,7 @@ pub fn render(
         hash: hash::SEED,
         records: 0,
         depth: 0,
-        attribute: 0,
+        attribute: render_elements::NONE_OPEN,
     };
     while k < count {
         let token = slices::cell(events, token::EVENT_WIDTH * k);

@@ -1,5 +1,4 @@
--- Serves the code. What a row of events adds to the numbers of its record, by its token. An open attribute is a number: 1 where
--- it counts, 2 where it does not, 0 where none is open.
+-- Serves the code. What a row of events adds to the numbers of its record, by its token.
 use Prim.Native.Nat.{ℕ, _+_, _-_, _*_, _≤_}
 use mathlib.Core.Path.{_≡_}
 use mathlib.Core.Bool.{Bool, true, false, cond}
@@ -7,43 +6,56 @@ use mathlib.Core.List.{List, [], _∷_, _++_}
 use lib.Dec.{eqb, ltb}
 use lib.ListN.{length}
 use Rattle.sequences.specs.Lists.{part, unitsOf}
-use Rattle.token.specs.Tokens.{shapeOf, XSD-QNAME, ELEMENT-TOKEN, ATTRIBUTE-TOKEN, ENDATTRIBUTES-TOKEN, ENDELEMENT-TOKEN, CDATA-TOKEN, qnameRows}
+use Rattle.token.specs.Tokens.{shapeOf, XSD-QNAME, ELEMENT-TOKEN, ATTRIBUTE-TOKEN, ENDATTRIBUTES-TOKEN, ENDELEMENT-TOKEN, CDATA-TOKEN, qnameRows, longest}
 use Rattle.rules.specs.Rules.{lawful}
 use Rattle.plan.specs.Text.{textOf}
 use Rattle.meaning.specs.Meaning.{Attribute, none-open, counted, skipped}
-use Rattle.meaning.specs.Codes.{mark}
+use Rattle.meaning.specs.Codes.{mark, attributeKind, qnameKind, endKind, closingKind}
 use Rattle.symbols.specs.Values.{valueCodes}
 use Rattle.marks.specs.Marks.{openingIn, declaredIn}
 
+-- the open attribute as a number: none, one that counts, one that does not
+abbrev pub noneOpen : ℕ
+noneOpen = 0
+
+abbrev pub countedOpen : ℕ
+countedOpen = 1
+
+abbrev pub skippedOpen : ℕ
+skippedOpen = 2
+
 abbrev pub attributeOf : ℕ → Attribute
-attributeOf q = cond (eqb q 1) counted (cond (eqb q 2) skipped none-open)
+attributeOf q = cond (eqb q countedOpen) counted (cond (eqb q skippedOpen) skipped none-open)
 
 -- the codes of values are those from 01 to 9F (004, section 2), so no class is looked up
+abbrev pub valuesEnd : ℕ
+valuesEnd = 0xA0
+
 abbrev pub isValue : ℕ → Bool
-isValue token = cond (eqb token 0) false (ltb token 0xA0)
+isValue token = cond (eqb token 0) false (ltb token valuesEnd)
 
 -- ---- rows
 
 -- the mark that closes an open attribute
 abbrev pub closeBy : ℕ → List ℕ
-closeBy q = cond (eqb q 1) (mark 4 0 ∷ []) []
+closeBy q = cond (eqb q countedOpen) (mark closingKind 0 ∷ []) []
 
 -- XSD-QNAME, or another value
 unfoldable pub countedBy : List ℕ → List ℕ → ℕ → ℕ → ℕ → List ℕ
 countedBy doc marks token a b =
-    cond (eqb token XSD-QNAME) ((openingIn marks a + 2) ∷ [])
+    cond (eqb token XSD-QNAME) ((openingIn marks a + qnameKind) ∷ [])
     (cond (isValue token) (valueCodes token (part doc a b) (textOf token (part doc a b))) [])
 
 -- none of a skipped attribute
 unfoldable pub valueBy : List ℕ → List ℕ → ℕ → ℕ → ℕ → ℕ → List ℕ
-valueBy doc marks q token a b = cond (eqb q 2) [] (countedBy doc marks token a b)
+valueBy doc marks q token a b = cond (eqb q skippedOpen) [] (countedBy doc marks token a b)
 
 unfoldable pub codesBy : List ℕ → List ℕ → ℕ → ℕ → ℕ → ℕ → List ℕ
 codesBy doc marks q token a b =
     cond (eqb token ELEMENT-TOKEN) (openingIn marks a ∷ [])
-    (cond (eqb token ATTRIBUTE-TOKEN) (closeBy q ++ cond (declaredIn marks a) [] ((openingIn marks a + 1) ∷ []))
+    (cond (eqb token ATTRIBUTE-TOKEN) (closeBy q ++ cond (declaredIn marks a) [] ((openingIn marks a + attributeKind) ∷ []))
     (cond (eqb token ENDATTRIBUTES-TOKEN) (closeBy q)
-    (cond (eqb token ENDELEMENT-TOKEN) (mark 3 0 ∷ [])
+    (cond (eqb token ENDELEMENT-TOKEN) (mark endKind 0 ∷ [])
     (cond (eqb token CDATA-TOKEN) (unitsOf (part doc a (2 * b))) (valueBy doc marks q token a b)))))
 
 -- nothing outside of a record
@@ -63,7 +75,7 @@ abbrev pub depthBy : ℕ → ℕ → ℕ
 depthBy depth token = cond (eqb token ELEMENT-TOKEN) (depth + 1) (cond (eqb token ENDELEMENT-TOKEN) (depth - 1) depth)
 
 unfoldable pub attributeBy : List ℕ → ℕ → ℕ → ℕ → ℕ
-attributeBy marks q token a = cond (eqb token ATTRIBUTE-TOKEN) (cond (declaredIn marks a) 2 1) (cond (eqb token ENDATTRIBUTES-TOKEN) 0 q)
+attributeBy marks q token a = cond (eqb token ATTRIBUTE-TOKEN) (cond (declaredIn marks a) skippedOpen countedOpen) (cond (eqb token ENDATTRIBUTES-TOKEN) noneOpen q)
 
 -- the most numbers that a row adds: two marks, or the units of a text
 abbrev pub roomBy : ℕ → ℕ → ℕ
@@ -75,4 +87,4 @@ pub record RowFits (doc : List ℕ) (token a b : ℕ) : Type 0 where
   pub attribute : token ≡ ATTRIBUTE-TOKEN → (1 ≤ a) × (a ≤ qnameRows)
   pub qname : token ≡ XSD-QNAME → (1 ≤ a) × (a ≤ qnameRows)
   pub chunk : token ≡ CDATA-TOKEN → a + 2 * b ≤ length doc
-  pub value : isValue token ≡ true → (token ≡ XSD-QNAME → ⊥) → (a + b ≤ length doc) × (lawful (shapeOf token) (part doc a b) ≡ true) × (b ≤ 65536)
+  pub value : isValue token ≡ true → (token ≡ XSD-QNAME → ⊥) → (a + b ≤ length doc) × (lawful (shapeOf token) (part doc a b) ≡ true) × (b ≤ longest)

@@ -5,19 +5,26 @@ ghost use mathlib.Core.List.{[], _∷_, _++_};
 ghost use Prim.Native.Nat.{_+_, _-_, _≤_, _<_};
 ghost use lib.Dec.{leb};
 ghost use lib.ListN.{length};
-ghost use Rattle.meaning.specs.Codes.{mark};
+ghost use Rattle.meaning.specs.Codes.{mark, attributeKind, endKind};
 ghost use Rattle.symbols.specs.Store.{PutHashed};
 ghost use Rattle.marks.specs.Marks.{openingIn, declaredIn, declaring};
-ghost use Rattle.render_elements.specs.Codes.{closeBy, unlessOut};
+ghost use Rattle.render_elements.specs.Codes.{noneOpen, countedOpen, skippedOpen, closeBy, unlessOut};
 ghost use Rattle.render_elements.specs.Effects.{cursorOf, movedTo, attributed, Begun, RowPut};
 ghost use Rattle.token.specs.Tokens.{qnameRows, eventRows};
 ghost use Rattle.twins.specs.Search.{partBounds};
 use symbols::Cursor;
 
+// The open attribute: none, one that counts, one that does not.
+pub const NONE_OPEN: usize = 0;
+
+pub const COUNTED_OPEN: usize = 1;
+
+pub const SKIPPED_OPEN: usize = 2;
+
 // ---- rows
 
 // What the walk knows: the place of the next number and the hash of the record's numbers so far; how many records have
-// begun; how many elements are open; and the open attribute: 0 for none, 1 where it counts, 2 where it does not.
+// begun; how many elements are open; and the open attribute.
 pub struct Progress {
     pub at: usize,
     pub hash: u64,
@@ -103,7 +110,7 @@ pub fn open(marks: &[u32; token::QNAME_ROWS], syms: &mut [u32], p: Progress, row
 // ENDELEMENT.
 pub fn close(syms: &mut [u32], p: Progress) -> Progress
     requires { ⌜ p .at < length (now syms) ⌝ }
-    ensures { λ r. ⌜ RowPut (unlessOut (p .depth) (mark 3 0 ∷ [])) (p .attribute) (p .depth - 1) (now (syms .entry)) p (now (syms .exit)) r ⌝ }
+    ensures { λ r. ⌜ RowPut (unlessOut (p .depth) (mark endKind 0 ∷ [])) (p .attribute) (p .depth - 1) (now (syms .entry)) p (now (syms .exit)) r ⌝ }
 {
     if p.depth == 0 {
         return p;
@@ -123,17 +130,21 @@ fn put_close(syms: &mut [u32], i: Cursor, attribute: usize) -> Cursor
     requires { ⌜ i .at < length (now syms) ⌝ }
     ensures { λ r. ⌜ PutHashed (now (syms .entry)) i (closeBy attribute) (now (syms .exit)) r ⌝ }
 {
-    if attribute == 1 {
+    if attribute == COUNTED_OPEN {
         return symbols::put_one(syms, i, symbols::CLOSING_MARK);
     }
     i
 }
 
-// 2 where the mark is that of a qname that declares a prefix, else 1.
+// The attribute that a mark opens: one that declares a prefix does not count.
 fn counts(mark: u32) -> usize
-    ensures { λ r. ⌜ r ≡ cond (leb declaring mark) 2 1 ⌝ }
+    ensures { λ r. ⌜ r ≡ cond (leb declaring mark) skippedOpen countedOpen ⌝ }
 {
-    if marks::DECLARING <= mark { 2 } else { 1 }
+    if marks::DECLARING <= mark {
+        SKIPPED_OPEN
+    } else {
+        COUNTED_OPEN
+    }
 }
 
 // ATTRIBUTE: it closes the one before; one that declares a prefix has no mark.
@@ -144,8 +155,8 @@ pub fn put_attribute(
     row: usize,
 ) -> Progress
     requires { ⌜ (1 ≤ row) × (row ≤ qnameRows) × (p .at + 1 < length (now syms)) ⌝ }
-    ensures { λ r. ⌜ RowPut (unlessOut (p .depth) (closeBy (p .attribute) ++ cond (declaredIn (now (marks .entry)) row) [] ((openingIn (now (marks .entry)) row + 1) ∷ [])))
-        (cond (declaredIn (now (marks .entry)) row) 2 1) (p .depth) (now (syms .entry)) p (now (syms .exit)) r ⌝ }
+    ensures { λ r. ⌜ RowPut (unlessOut (p .depth) (closeBy (p .attribute) ++ cond (declaredIn (now (marks .entry)) row) [] ((openingIn (now (marks .entry)) row + attributeKind) ∷ [])))
+        (cond (declaredIn (now (marks .entry)) row) skippedOpen countedOpen) (p .depth) (now (syms .entry)) p (now (syms .exit)) r ⌝ }
 {
     let mark = marks[row - 1];
     if p.depth == 0 {
@@ -153,18 +164,24 @@ pub fn put_attribute(
     }
     let i = put_close(syms, cursor_of(p), p.attribute);
     if marks::DECLARING <= mark {
-        return with_attribute(moved(p, i), 2);
+        return with_attribute(moved(p, i), SKIPPED_OPEN);
     }
-    with_attribute(moved(p, symbols::put_one(syms, i, mark + 1)), 1)
+    with_attribute(
+        moved(p, symbols::put_one(syms, i, mark + meaning::ATTRIBUTE_KIND)),
+        COUNTED_OPEN,
+    )
 }
 
 // ENDATTRIBUTES.
 pub fn end_attributes(syms: &mut [u32], p: Progress) -> Progress
     requires { ⌜ p .at < length (now syms) ⌝ }
-    ensures { λ r. ⌜ RowPut (unlessOut (p .depth) (closeBy (p .attribute))) 0 (p .depth) (now (syms .entry)) p (now (syms .exit)) r ⌝ }
+    ensures { λ r. ⌜ RowPut (unlessOut (p .depth) (closeBy (p .attribute))) noneOpen (p .depth) (now (syms .entry)) p (now (syms .exit)) r ⌝ }
 {
     if p.depth == 0 {
-        return with_attribute(p, 0);
+        return with_attribute(p, NONE_OPEN);
     }
-    with_attribute(moved(p, put_close(syms, cursor_of(p), p.attribute)), 0)
+    with_attribute(
+        moved(p, put_close(syms, cursor_of(p), p.attribute)),
+        NONE_OPEN,
+    )
 }

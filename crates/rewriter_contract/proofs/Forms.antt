@@ -7,7 +7,7 @@ use native.Mathlib.Omega.{arith}
 use lib.Dec.{eqb}
 use lib.ListN.{length}
 use borrow.Author.Tests.{lt-ltb, le-ltb, eq-eqb, ne-eqb}
-use Rattle.sequences.specs.Lists.{Front, Every}
+use Rattle.sequences.specs.Arrays.{Front, Every}
 use Rattle.token.specs.Tokens.{accepted, longest, nameWidth, qnameWidth}
 use Rattle.machine.specs.Machine.{Result, reading, roomIn, Reads}
 use Rattle.machine.specs.Facts.{NameFits, QnameFits}

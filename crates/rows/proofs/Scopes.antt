@@ -5,7 +5,7 @@ use mathlib.Core.List.{List, [], _∷_, _++_, append-assoc, append-nil}
 use native.Mathlib.Omega.{arith}
 use lib.ListN.{length, getD, set, length-append, length-set}
 use lib.Seq.{sets, take-append-seam, getD-append-add}
-use Rattle.sequences.specs.Lists.{Front}
+use Rattle.sequences.specs.Arrays.{Front}
 use Rattle.sequences.proofs.Overlay.{front-push, front-take, front-at}
 use Rattle.machine.specs.Machine.{Scope, namesIn, qnamesIn, rowOf}
 use Rattle.rows.specs.Tables.{rowAt, put6}

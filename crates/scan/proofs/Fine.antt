@@ -31,7 +31,7 @@ use Rattle.fields.specs.declared.Qname.the-variants as qname
 use Rattle.fields.specs.declared.Header.{Header}
 use Rattle.fields.specs.declared.Header.the-variants as header
 use Rattle.modes.specs.Modes.{content, inDeclaration, is, allowed, afterMisc}
-use Rattle.scan.specs.Steps.{eventDue, textAfter, textStep, nameAfter, nameStep, localAfter, prefixAfter, uriAfter, qnameStep, extensionAfter, extensionStep, dataAfter, targetAfter, piStep, openAfter, elementStep, attributeAfter, attributeStep, valueAfter, valueStep, nestAfter, nestStep, classStep, tokenStep, declaredStep, endStep, stepAt}
+use Rattle.scan.specs.Steps.{eventDue, textAfter, textStep, nameAfter, nameStep, localAfter, prefixAfter, uriAfter, qnameStep, extensionAfter, extensionStep, dataAfter, targetAfter, piStep, openAfter, elementStep, referAfter, attributeStep, valueAfter, valueStep, nestAfter, nestStep, classStep, tokenStep, declaredStep, endStep, stepAt}
 use Rattle.modes.specs.declared.Mode.{Mode}
 use Rattle.modes.specs.declared.Mode.the-variants.{Content, AfterDocType, AfterSystem, AfterPublic, Cdata, AfterXmlDecl, AfterEncoding}
 use Rattle.modes.specs.declared.View.{View}
@@ -72,7 +72,7 @@ module _ (size : ℕ) (v : View) (room : Room) where
   open-fine o (qname.Is number next) h = due-fine _ (λ r. omega arith)
   open-fine o (qname.Refused number place) h = tt
 
-  attribute-fine : (n : Qname) → QnameWithin size (v .at + 1) (v .qknown) n → Fine size v room (attributeAfter v room n)
+  attribute-fine : (n : Qname) → QnameWithin size (v .at + 1) (v .qknown) n → Fine size v room (referAfter v room n)
   attribute-fine (qname.Is number next) h = due-fine _ (λ r. omega arith)
   attribute-fine (qname.Refused number place) h = tt
 

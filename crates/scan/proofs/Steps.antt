@@ -23,8 +23,8 @@ use Rattle.fields.specs.declared.Name.{Name}
 use Rattle.fields.specs.declared.Name.the-variants as name
 use Rattle.fields.specs.declared.Qname.{Qname}
 use Rattle.fields.specs.declared.Header.{Header}
-use Rattle.modes.specs.Modes.{content, inDeclaration, is, numberOf, allowed, afterValue}
-use Rattle.scan.specs.Steps.{eventDue, textAfter, textStep, nameAfter, nameStep, localAfter, prefixAfter, uriAfter, qnameStep, extensionAfter, extensionStep, dataAfter, targetAfter, piStep, openAfter, elementStep, attributeAfter, attributeStep, valueAfter, valueStep, nestAfter, nestStep, classStep, tokenStep, declaredStep, endStep, stepAt}
+use Rattle.modes.specs.Modes.{content, inDeclaration, is, modeNumber, allowed, afterValue}
+use Rattle.scan.specs.Steps.{eventDue, textAfter, textStep, nameAfter, nameStep, localAfter, prefixAfter, uriAfter, qnameStep, extensionAfter, extensionStep, dataAfter, targetAfter, piStep, openAfter, elementStep, referAfter, attributeStep, valueAfter, valueStep, nestAfter, nestStep, classStep, tokenStep, declaredStep, endStep, stepAt}
 use Rattle.modes.specs.declared.Mode.{Mode}
 use Rattle.modes.specs.declared.Mode.the-variants.{Prolog, AfterXmlDecl, AfterEncoding}
 use Rattle.modes.specs.declared.View.{View}
@@ -84,9 +84,9 @@ module _ (doc : List ℕ) (v : View) (room : Room) where
   unfolding elementStep
   open-deep h = simp (tests, h)
 
-  pub attribute-on : {r n : Qname} → r ≡ qnameAt (v .qknown) doc (v .at + 1) → r ≡ n → attributeAfter v room n ≡ attributeStep doc v room
+  pub attribute-on : {r n : Qname} → r ≡ qnameAt (v .qknown) doc (v .at + 1) → r ≡ n → referAfter v room n ≡ attributeStep doc v room
   unfolding attributeStep
-  attribute-on e g = ap (attributeAfter v room) (sym g ∙ e)
+  attribute-on e g = ap (referAfter v room) (sym g ∙ e)
 
   pub value-on : (token : ℕ) {r f : Field} → r ≡ fieldAt (shapeOf token) doc (v .at) → r ≡ f → valueAfter v room token f ≡ valueStep doc v room token
   unfolding valueStep
@@ -127,18 +127,18 @@ module _ (doc : List ℕ) (v : View) (room : Room) where
   unfolding stepAt
   ended h = simp (tests, h)
 
-  module _ (here : v .at < length doc) {m : ℕ} (number : m ≡ numberOf (v .mode)) where
+  module _ (here : v .at < length doc) {m : ℕ} (number : m ≡ modeNumber (v .mode)) where
     pub in-declaration : 9 ≤ m → {b : ℕ} → b ≡ getD doc (v .at) 0 → declaredStep doc v room b ≡ stepAt doc v room
     unfolding stepAt
     in-declaration h e =
-        let k : 9 ≤ numberOf (v .mode) = rw number at h in
+        let k : 9 ≤ modeNumber (v .mode) = rw number at h in
         let d : inDeclaration (v .mode) ≡ true = sym (declares-is (v .mode)) ∙ simp (tests, k) in
         rw e (simp (tests, here, d))
 
     pub at-token : m < 9 → {b : ℕ} → b ≡ getD doc (v .at) 0 → tokenStep doc v room b ≡ stepAt doc v room
     unfolding stepAt
     at-token h e =
-        let k : numberOf (v .mode) < 9 = rw number at h in
+        let k : modeNumber (v .mode) < 9 = rw number at h in
         let d : inDeclaration (v .mode) ≡ false = sym (declares-is (v .mode)) ∙ simp (tests, k) in
         rw e (simp (tests, here, d))
 
@@ -174,7 +174,7 @@ module _ (v : View) (room : Room) (token : ℕ) (number : QnameNumber) (next : �
       → eventDue v room (step.Refer token number (afterValue (v .mode)) next) ≡ valueAfter v room token (field.Reference number next)
   reference-known n h = let k : 1 ≤ number .0 = omega arith in simp (tests, k, h)
 
-module _ (size : ℕ) (v : View) {a b : Bool} (both : a ≡ (eqb (v .depth) 0 && eqb (v .elements) 0)) (all : b ≡ (a && leb (numberOf (v .mode)) 6)) where
+module _ (size : ℕ) (v : View) {a b : Bool} (both : a ≡ (eqb (v .depth) 0 && eqb (v .elements) 0)) (all : b ≡ (a && leb (modeNumber (v .mode)) 6)) where
   whole : b ≡ (eqb (v .depth) 0 && eqb (v .elements) 0 && content (v .mode))
   whole = all ∙ rw (both, content-is (v .mode))
 

@@ -5,7 +5,7 @@ use Rattle.modes.specs.declared.View.{View}
 use Rattle.scan.specs.declared.Room.{Room}
 use Rattle.scan.specs.declared.Step.{Step}
 use Rattle.scan.specs.declared.Step.the-variants as step
-use Rattle.token.specs.Tokens.{openElements}
+use Rattle.token.specs.Tokens.{openElements, nestedDocuments}
 
 abbrev pub Fine : ℕ → View → Room → Step → Type 0
 Fine size v room (step.Stop number place) = Unit
@@ -24,5 +24,5 @@ Fine size v room (step.Pi target start next) =
     (v .at < next) × (next ≤ size) × (target .0 ≤ v .known) × (start ≤ size) × (v .events < room .events)
 Fine size v room (step.Close next) = (v .at < next) × (next ≤ size) × (0 < v .elements) × (v .events < room .events)
 Fine size v room (step.Nest version next) =
-    (v .at < next) × (next ≤ size) × (1 ≤ version) × (version ≤ 2) × (v .depth < 8) × (v .events < room .events)
+    (v .at < next) × (next ≤ size) × (1 ≤ version) × (version ≤ 2) × (v .depth < nestedDocuments) × (v .events < room .events)
 Fine size v room (step.Leave next) = (v .at < next) × (next ≤ size) × (0 < v .depth) × (v .elements ≡ 0) × (v .events < room .events)

@@ -5,7 +5,7 @@ use mathlib.Core.Bool.{cond, _&&_}
 use mathlib.Core.List.{List}
 use lib.Dec.{ltb, leb, eqb}
 use lib.ListN.{length, getD}
-use Rattle.token.specs.Tokens.{accepted, missing, badToken, notDefined, badValue, tooDeep, noRow, openElements, nestedDocuments, classOf, shapeOf, ATTRIBUTE-TOKEN, ENCODING-TOKEN}
+use Rattle.token.specs.Tokens.{mb32, accepted, missing, badToken, notDefined, badValue, tooDeep, noRow, openElements, nestedDocuments, classOf, shapeOf, ATTRIBUTE-TOKEN, ENCODING-TOKEN}
 use Rattle.token.specs.declared.NameNumber.{NameNumber}
 use Rattle.token.specs.declared.Class.{Class}
 use Rattle.token.specs.declared.Class.the-variants as class
@@ -43,7 +43,7 @@ textAfter v room token mode (text.Is place units) = eventDue v room (step.Event 
 textAfter v room token mode (text.Refused number place) = step.Stop number place
 
 unfoldable pub textStep : List ℕ → View → Room → ℕ → Mode → Step
-textStep doc v room token mode = textAfter v room token mode (textAt 5 doc (v .at + 1))
+textStep doc v room token mode = textAfter v room token mode (textAt mb32 doc (v .at + 1))
 
 -- ---- metadata: F0, EF, EA
 
@@ -53,7 +53,7 @@ nameAfter v room (text.Is place units) =
 nameAfter v room (text.Refused number place) = step.Stop number place
 
 unfoldable pub nameStep : List ℕ → View → Room → Step
-nameStep doc v room = nameAfter v room (textAt 5 doc (v .at + 1))
+nameStep doc v room = nameAfter v room (textAt mb32 doc (v .at + 1))
 
 abbrev pub localAfter : View → Room → NameNumber → NameNumber → Name → Step
 localAfter v room uri prefix (name.Is local next) =
@@ -76,7 +76,7 @@ extensionAfter doc (number.Is size next) = cond (leb (next + size) (length doc))
 extensionAfter doc (number.Refused number place) = step.Stop number place
 
 unfoldable pub extensionStep : List ℕ → View → Step
-extensionStep doc v = extensionAfter doc (numberAt 5 doc (v .at + 1))
+extensionStep doc v = extensionAfter doc (numberAt mb32 doc (v .at + 1))
 
 -- ---- PIs: a name, then a text
 
@@ -85,7 +85,7 @@ dataAfter v room target start (text.Is place units) = eventDue v room (step.Pi t
 dataAfter v room target start (text.Refused number place) = step.Stop number place
 
 abbrev pub targetAfter : List ℕ → View → Room → Name → Step
-targetAfter doc v room (name.Is target next) = dataAfter v room target next (textAt 5 doc next)
+targetAfter doc v room (name.Is target next) = dataAfter v room target next (textAt mb32 doc next)
 targetAfter doc v room (name.Refused number place) = step.Stop number place
 
 unfoldable pub piStep : List ℕ → View → Room → Step
@@ -101,12 +101,12 @@ unfoldable pub elementStep : List ℕ → View → Room → Step
 elementStep doc v room =
     cond (ltb (v .opened) openElements) (openAfter v room (qnameAt (v .qknown) doc (v .at + 1))) (step.Stop tooDeep (v .at))
 
-abbrev pub attributeAfter : View → Room → Qname → Step
-attributeAfter v room (qname.Is number next) = eventDue v room (step.Refer ATTRIBUTE-TOKEN number Attributes next)
-attributeAfter v room (qname.Refused number place) = step.Stop number place
+abbrev pub referAfter : View → Room → Qname → Step
+referAfter v room (qname.Is number next) = eventDue v room (step.Refer ATTRIBUTE-TOKEN number Attributes next)
+referAfter v room (qname.Refused number place) = step.Stop number place
 
 unfoldable pub attributeStep : List ℕ → View → Room → Step
-attributeStep doc v room = attributeAfter v room (qnameAt (v .qknown) doc (v .at + 1))
+attributeStep doc v room = referAfter v room (qnameAt (v .qknown) doc (v .at + 1))
 
 -- ---- values; 8C refers to a qname
 

@@ -149,7 +149,7 @@ fn declared_step(doc: &[u8], v: View, room: Room, byte: u8) -> Step
 {
     let mode = v.mode;
     if both(
-        modes::number_of(mode) == modes::AFTER_XMLDECL,
+        modes::mode_number(mode) == modes::AFTER_XMLDECL,
         byte == token::ENCODING_TOKEN,
     ) {
         return tokens::text_step(doc, v, room, byte, Mode::AfterEncoding);
@@ -179,7 +179,7 @@ fn end_step(size: usize, v: View) -> Step
     let mode = v.mode;
     if both(
         both(v.depth == 0, v.elements == 0),
-        modes::number_of(mode) <= 6,
+        modes::mode_number(mode) <= modes::AFTER_PUBLIC,
     ) {
         Step::Stop {
             number: token::ACCEPTED,
@@ -203,7 +203,7 @@ pub fn step_at(table: &[u16; 256], doc: &[u8], v: View, room: Room) -> Step
         return end_step(doc.len(), v);
     }
     let mode = v.mode;
-    if 9 <= modes::number_of(mode) {
+    if modes::AFTER_XMLDECL <= modes::mode_number(mode) {
         return declared_step(doc, v, room, doc[at]);
     }
     token_step(table, doc, v, room, doc[at])

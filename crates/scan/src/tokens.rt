@@ -2,6 +2,7 @@
 ghost use mathlib.Core.Path.{_≡_};
 ghost use Prim.Native.Nat.{_+_, _<_};
 ghost use lib.ListN.{length};
+ghost use Rattle.token.specs.Tokens.{mb32};
 ghost use Rattle.token.specs.Entries.{Listed};
 ghost use Rattle.scan.specs.Steps.{eventDue, textStep, nameStep, qnameStep, localAfter, prefixAfter, extensionStep, dataAfter, piStep, elementStep, attributeStep, valueAfter, valueStep, nestStep};
 ghost use Rattle.fields.specs.Fields.{nameAt};
@@ -38,7 +39,7 @@ pub fn text_step(doc: &[u8], v: View, room: Room, token: u8, mode: Mode) -> Step
     requires { ⌜ v .at < length (now doc) ⌝ }
     ensures { λ r. ⌜ r ≡ textStep (now (doc .entry)) v room token mode ⌝ }
 {
-    match value::text_at(doc, v.at + 1, 5) {
+    match value::text_at(doc, v.at + 1, token::MB32) {
         Text::Refused { number, place } => Step::Stop { number, place },
         Text::Is { place, units } => due(
             v,
@@ -58,7 +59,7 @@ pub fn name_step(doc: &[u8], v: View, room: Room) -> Step
     requires { ⌜ v .at < length (now doc) ⌝ }
     ensures { λ r. ⌜ r ≡ nameStep (now (doc .entry)) v room ⌝ }
 {
-    match value::text_at(doc, v.at + 1, 5) {
+    match value::text_at(doc, v.at + 1, token::MB32) {
         Text::Refused { number, place } => Step::Stop { number, place },
         Text::Is { place, units } => {
             if v.names < room.names {
@@ -131,7 +132,7 @@ pub fn extension_step(doc: &[u8], v: View) -> Step
     requires { ⌜ v .at < length (now doc) ⌝ }
     ensures { λ r. ⌜ r ≡ extensionStep (now (doc .entry)) v ⌝ }
 {
-    match number::read(doc, v.at + 1, 5) {
+    match number::read(doc, v.at + 1, token::MB32) {
         Number::Refused { number, place } => Step::Stop { number, place },
         Number::Is { value, next } => {
             if value <= doc.len() - next {
@@ -148,9 +149,9 @@ pub fn extension_step(doc: &[u8], v: View) -> Step
 
 // The text of a PI whose length stands at `start`.
 fn data_step(doc: &[u8], v: View, room: Room, target: NameNumber, start: usize) -> Step
-    ensures { λ r. ⌜ r ≡ dataAfter v room target start (textAt 5 (now (doc .entry)) start) ⌝ }
+    ensures { λ r. ⌜ r ≡ dataAfter v room target start (textAt mb32 (now (doc .entry)) start) ⌝ }
 {
-    match value::text_at(doc, start, 5) {
+    match value::text_at(doc, start, token::MB32) {
         Text::Refused { number, place } => Step::Stop { number, place },
         Text::Is { place, units } => due(
             v,

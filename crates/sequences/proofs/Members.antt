@@ -5,7 +5,8 @@ use mathlib.Core.Logic.{_⊎_, inl, inr, ⊎-elim}
 use mathlib.Core.List.{List, [], _∷_, _++_}
 use native.Mathlib.Omega.{arith}
 use lib.ListN.{length, getD}
-use Rattle.sequences.specs.Lists.{Every, none, first, In, here, there}
+use Rattle.sequences.specs.Lists.{In, here, there}
+use Rattle.sequences.specs.Arrays.{Every, none, first}
 
 -- ---- each element has a property
 

@@ -6,7 +6,8 @@ use native.Mathlib.Numerals.{add-one}
 use native.Mathlib.Omega.{arith}
 use lib.ListN.{length, getD, take, set, length-append, length-drop, length-take}
 use lib.Seq.{drop-cons, set-append-seam, take-suc-set, take-take, getD-take, length-take-le, sets}
-use Rattle.sequences.specs.Lists.{overlay, Front, part}
+use Rattle.sequences.specs.Lists.{overlay, part}
+use Rattle.sequences.specs.Arrays.{Front}
 
 -- one element more
 pub overlay-put : (front l : List ℕ) (a n : ℕ) → n ≡ length front → n < length l

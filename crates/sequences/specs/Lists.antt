@@ -1,6 +1,5 @@
 -- How a lent table, buffer or array relates to a list, and the bytes of UTF-16LE text. Cited by the contracts of several crates.
 use Prim.Native.Nat.{ℕ, _+_, _*_, _/_, _%_, _<_}
-use mathlib.Core.Path.{_≡_}
 use mathlib.Core.Bool.{Bool, true, false, _&&_}
 use mathlib.Core.List.{List, [], _∷_, _++_}
 use lib.Dec.{eqb}
@@ -9,10 +8,6 @@ use lib.ListN.{length, getD, take, drop}
 -- `front` laid over the front of a table or buffer; what stands past it stays
 abbrev pub overlay : {A : Type 0} → List A → List A → List A
 overlay front l = front ++ drop (length front) l
-
--- a stack kept at the front of an array
-abbrev pub Front : List ℕ → List ℕ → Type 0
-Front stack l = take (length stack) l ≡ stack
 
 -- the `size` elements from `place` on
 abbrev pub part : {A : Type 0} → List A → ℕ → ℕ → List A
@@ -44,11 +39,6 @@ abbrev pub unitsOf : List ℕ → List ℕ
 unitsOf [] = []
 unitsOf (a ∷ []) = []
 unitsOf (a ∷ b ∷ l) = (a + 256 * b) ∷ unitsOf l
-
--- each element of a list has a property
-pub data Every {A : Type 0} (P : A → Type 0) : List A → Type 0 where
-  none : Every P []
-  first : {a : A} {l : List A} → P a → Every P l → Every P (a ∷ l)
 
 -- `x` stands in a list
 pub data In {A : Type 0} (x : A) : List A → Type 0 where

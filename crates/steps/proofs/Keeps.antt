@@ -7,7 +7,8 @@ use native.Mathlib.Numerals.{add-one}
 use native.Mathlib.Omega.{arith}
 use lib.Dec.{lit<}
 use lib.ListN.{length, getD, length-append, length-set, length-drop, drop}
-use Rattle.sequences.specs.Lists.{overlay, Front}
+use Rattle.sequences.specs.Lists.{overlay}
+use Rattle.sequences.specs.Arrays.{Front}
 use Rattle.scan.specs.Bounds.{Fine}
 use Rattle.modes.specs.Modes.{afterMisc}
 use Rattle.modes.specs.declared.Mode.{Mode}

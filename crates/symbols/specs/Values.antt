@@ -4,13 +4,13 @@ use mathlib.Core.Option.{Option, none, some}
 use mathlib.Core.List.{List, _∷_, map}
 use Rattle.plan.specs.declared.Plan.{Plan}
 use Rattle.plan.specs.declared.Plan.the-variants.{Nothing, Payload, Number, Boolean, HexDigits, Base64Letters}
-use Rattle.meaning.specs.Codes.{mark}
+use Rattle.meaning.specs.Codes.{mark, tokenKind, byteKind}
 
 -- ---- values
 
 -- the units of its text, or a mark for the token and one for each byte
 abbrev pub valueCodes : ℕ → List ℕ → Option (List ℕ) → List ℕ
-valueCodes token payload none = mark 5 token ∷ map (mark 6) payload
+valueCodes token payload none = mark tokenKind token ∷ map (mark byteKind) payload
 valueCodes token payload (some units) = units
 
 -- no text, the payload itself, a text that is made in a small buffer, or one that is made of a blob

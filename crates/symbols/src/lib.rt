@@ -8,24 +8,24 @@ ghost use lib.ListN.{length};
 ghost use Rattle.sequences.specs.Lists.{unitsOf};
 ghost use Rattle.token.specs.Tokens.{shapeOf, longest};
 ghost use Rattle.rules.specs.Rules.{lawful};
-ghost use Rattle.base64.specs.Base64.{Alphabet};
+ghost use Rattle.base64.specs.Letters.{Alphabet};
 ghost use Rattle.plan.specs.Text.{textOf};
 ghost use Rattle.plan.specs.Plans.{unitsBy, NumberFits, PayloadFits};
 ghost use Rattle.units.specs.Units.{Loaded};
-ghost use Rattle.meaning.specs.Codes.{mark};
+ghost use Rattle.meaning.specs.Codes.{mark, tokenKind, byteKind};
 ghost use Rattle.symbols.specs.Store.{PutHashed};
 ghost use Rattle.symbols.specs.Values.{valueCodes, wayOf};
 use plan::Plan;
 
 // The numbers of the marks that close an attribute and an element, and of the first mark of a value's token and of a byte; `MARK_KINDS` more is the
 // next (`mark`, meaning/specs/Codes.antt).
-pub const END_MARK: u32 = meaning::FIRST_MARK + 3;
+pub const END_MARK: u32 = meaning::FIRST_MARK + meaning::END_KIND;
 
-pub const CLOSING_MARK: u32 = meaning::FIRST_MARK + 4;
+pub const CLOSING_MARK: u32 = meaning::FIRST_MARK + meaning::CLOSING_KIND;
 
-const TOKEN_MARK: u32 = meaning::FIRST_MARK + 5;
+const TOKEN_MARK: u32 = meaning::FIRST_MARK + meaning::TOKEN_KIND;
 
-const BYTE_MARK: u32 = meaning::FIRST_MARK + 6;
+const BYTE_MARK: u32 = meaning::FIRST_MARK + meaning::BYTE_KIND;
 
 // The place of the next number, and the hash of the record's numbers before it.
 pub struct Cursor {
@@ -78,7 +78,7 @@ pub fn put_units(src: &[u8], syms: &mut [u32], p: Cursor) -> Cursor
 // A mark for each byte.
 pub fn put_bytes(src: &[u8], syms: &mut [u32], p: Cursor) -> Cursor
     requires { ⌜ p .at + length (now src) ≤ length (now syms) ⌝ }
-    ensures { λ r. ⌜ PutHashed (now (syms .entry)) p (map (mark 6) (now (src .entry))) (now (syms .exit)) r ⌝ }
+    ensures { λ r. ⌜ PutHashed (now (syms .entry)) p (map (mark byteKind) (now (src .entry))) (now (syms .exit)) r ⌝ }
 {
     let at = p.at;
     let mut h = p.hash;
@@ -100,7 +100,7 @@ pub fn put_bytes(src: &[u8], syms: &mut [u32], p: Cursor) -> Cursor
 // A value without text: its mark, and a mark for each byte.
 pub fn put_value(token: u8, payload: &[u8], syms: &mut [u32], p: Cursor) -> Cursor
     requires { ⌜ p .at + 1 + length (now payload) ≤ length (now syms) ⌝ }
-    ensures { λ r. ⌜ PutHashed (now (syms .entry)) p (mark 5 token ∷ map (mark 6) (now (payload .entry))) (now (syms .exit)) r ⌝ }
+    ensures { λ r. ⌜ PutHashed (now (syms .entry)) p (mark tokenKind token ∷ map (mark byteKind) (now (payload .entry))) (now (syms .exit)) r ⌝ }
 {
     let after = put_one(
         syms,
@@ -115,7 +115,7 @@ pub fn put_made(
     alphabet: &[u8; base64::LETTER_COUNT],
     plan: Plan,
     payload: &[u8],
-    small: &[u8; 82],
+    small: &[u8; numeral::SMALL_BYTES],
     from: usize,
     n: usize,
     syms: &mut [u32],
@@ -152,9 +152,18 @@ pub fn put_blob(
         × (p .at + length (unitsBy plan (now payload)) ≤ length (now syms)) ⌝ }
     ensures { λ r. ⌜ PutHashed (now (syms .entry)) p (unitsBy plan (now (payload .entry))) (now (syms .exit)) r ⌝ }
 {
-    let small = [0u8; 82];
-    let n = units::units(plan, payload, 41);
-    put_made(alphabet, plan, payload, &small, 41, n, syms, p)
+    let small = [0u8; numeral::SMALL_BYTES];
+    let n = units::units(plan, payload, numeral::SMALL_UNITS);
+    put_made(
+        alphabet,
+        plan,
+        payload,
+        &small,
+        numeral::SMALL_UNITS,
+        n,
+        syms,
+        p,
+    )
 }
 
 // The text of a number or of a truth value: made at the end of a small buffer and taken from there. The payload is named in
@@ -163,7 +172,7 @@ pub fn put_small(plan: Plan, payload: &[u8], syms: &mut [u32], p: Cursor) -> Cur
     requires { ⌜ (wayOf plan ≡ 2) × NumberFits plan × (p .at + length (unitsBy plan (now payload)) ≤ length (now syms)) ⌝ }
     ensures { λ r. ⌜ PutHashed (now (syms .entry)) p (unitsBy plan (now (payload .entry))) (now (syms .exit)) r ⌝ }
 {
-    let mut small = [0u8; 82];
+    let mut small = [0u8; numeral::SMALL_BYTES];
     let from = 2 * units::load(plan, &mut small);
     put_units(&small[from..], syms, p)
 }

@@ -13,6 +13,6 @@ pub record Lays (units before after : List ℕ) (r : Shown) : Type 0 where
   pub answer : r ≡ laid (bytesOf units) (length before)
   pub holds : after ≡ laidIn (bytesOf units) before
 
--- the same for the text that ends 82 bytes, from unit `at` on
+-- the same for the text that ends the small buffer, from unit `at` on
 pub record LaysEnd (small : List ℕ) (at : ℕ) (before after : List ℕ) (r : Shown) : Type 0 where
   pub each : (units : List ℕ) → Ends small units at → Lays units before after r

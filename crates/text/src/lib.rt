@@ -4,6 +4,7 @@ ghost use mathlib.Core.Path.{_≡_};
 ghost use Prim.Native.Nat.{_+_, _*_, _^_, _≤_, _<_};
 ghost use lib.ListN.{length, take};
 ghost use Rattle.numeral.specs.Numeral.{numeral, truth};
+ghost use Rattle.numeral.specs.Puts.{smallUnits, smallBytes};
 ghost use Rattle.chunks.specs.Chunks.{chunksValue, Chunked};
 ghost use Rattle.hexadecimal.specs.Hexadecimal.{hex};
 ghost use Rattle.base64.specs.Base64.{base64};
@@ -28,12 +29,12 @@ pub enum Shown {
 
 // ---- a text into a lent buffer
 
-// Lays the text that ends the 82 bytes of small, from unit `at` on, into the buffer, if it has the room.
-fn show_small(small: &[u8; 82], at: usize, buffer: &mut [u8]) -> Shown
-    requires { ⌜ (at ≤ 41) × (length (now small) ≡ 82) ⌝ }
+// Lays the text that ends small, from unit `at` on, into the buffer, if it has the room.
+fn show_small(small: &[u8; numeral::SMALL_BYTES], at: usize, buffer: &mut [u8]) -> Shown
+    requires { ⌜ (at ≤ smallUnits) × (length (now small) ≡ smallBytes) ⌝ }
     ensures { λ r. ⌜ LaysEnd (now (small .entry)) at (now (buffer .entry)) (now (buffer .exit)) r ⌝ }
 {
-    let need = 82 - 2 * at;
+    let need = numeral::SMALL_BYTES - 2 * at;
     if buffer.len() < need {
         return Shown::Short(need);
     }
@@ -46,7 +47,7 @@ fn show_number(minus: bool, size: Chunks, scale: usize, buffer: &mut [u8]) -> Sh
     requires { ⌜ Chunked size × (scale ≤ 38) × (chunksValue size < 10 ^ 39) ⌝ }
     ensures { λ r. ⌜ Lays (numeral minus (chunksValue size) scale) (now (buffer .entry)) (now (buffer .exit)) r ⌝ }
 {
-    let mut small = [0u8; 82];
+    let mut small = [0u8; numeral::SMALL_BYTES];
     let at = numeral::render(minus, size, scale, &mut small);
     show_small(&small, at, buffer)
 }
@@ -55,7 +56,7 @@ fn show_number(minus: bool, size: Chunks, scale: usize, buffer: &mut [u8]) -> Sh
 fn show_truth(yes: bool, buffer: &mut [u8]) -> Shown
     ensures { λ r. ⌜ Lays (truth yes) (now (buffer .entry)) (now (buffer .exit)) r ⌝ }
 {
-    let mut small = [0u8; 82];
+    let mut small = [0u8; numeral::SMALL_BYTES];
     let at = numeral::render_truth(yes, &mut small);
     show_small(&small, at, buffer)
 }

@@ -3,7 +3,7 @@ use Prim.Native.Nat.{ℕ, _/_, _%_, _<_}
 use mathlib.Core.Path.{_≡_}
 use mathlib.Core.List.{List, [], _∷_}
 use lib.ListN.{getD}
-use Rattle.token.specs.Tokens.{classOf, shapeOf}
+use Rattle.token.specs.Tokens.{mb32, mb64, classOf, shapeOf}
 use Rattle.token.specs.declared.Class.{Class}
 use Rattle.token.specs.declared.Class.the-variants.{Unknown, Value, LaterValue, XmlDecl, Encoding, DocType, System, Public, Subset, Element, EndElement, Attribute, EndAttributes, Pi, Comment, Cdata, CdataEnd, NameDef, QnameDef, Nest, EndNest, Extension, Flush}
 use Rattle.token.specs.declared.Shape.{Shape}
@@ -14,7 +14,7 @@ abbrev pub classes : List Class
 classes = Unknown ∷ Value ∷ LaterValue ∷ XmlDecl ∷ Encoding ∷ DocType ∷ System ∷ Public ∷ Subset ∷ Element ∷ EndElement ∷ Attribute ∷ EndAttributes ∷ Pi ∷ Comment ∷ Cdata ∷ CdataEnd ∷ NameDef ∷ QnameDef ∷ Nest ∷ EndNest ∷ Extension ∷ Flush ∷ []
 
 abbrev pub shapes : List Shape
-shapes = Nothing ∷ (Fixed 1) ∷ (Fixed 2) ∷ (Fixed 4) ∷ (Fixed 8) ∷ (Fixed 16) ∷ (Text 5) ∷ (Text 10) ∷ (Blob 5) ∷ (Blob 10) ∷ (CodePage 5) ∷ (CodePage 10) ∷ Decimal ∷ Qname ∷ (Stamp 0) ∷ (Stamp 1) ∷ (Stamp 2) ∷ (Date 0 3652058) ∷ (Time 693595 693595) ∷ (Time 0 3652058) ∷ (ZonedTime 0 3652058) ∷ (ZonedTime 0 16777215) ∷ []
+shapes = Nothing ∷ (Fixed 1) ∷ (Fixed 2) ∷ (Fixed 4) ∷ (Fixed 8) ∷ (Fixed 16) ∷ (Text mb32) ∷ (Text mb64) ∷ (Blob mb32) ∷ (Blob mb64) ∷ (CodePage mb32) ∷ (CodePage mb64) ∷ Decimal ∷ Qname ∷ (Stamp 0) ∷ (Stamp 1) ∷ (Stamp 2) ∷ (Date 0 3652058) ∷ (Time 693595 693595) ∷ (Time 0 3652058) ∷ (ZonedTime 0 3652058) ∷ (ZonedTime 0 16777215) ∷ []
 
 unfoldable pub classIn : ℕ → Class
 classIn entry = getD classes (entry / 32) Unknown

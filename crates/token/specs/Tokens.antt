@@ -62,6 +62,13 @@ longest = 65536
 abbrev pub largest : ℕ
 largest = 2147483647
 
+-- bytes of a number, at most (004, section 2.3.2: mb32 = *4highbyte lowbyte, mb64 = *9highbyte lowbyte)
+abbrev pub mb32 : ℕ
+mb32 = 5
+
+abbrev pub mb64 : ℕ
+mb64 = 10
+
 -- rows of each table, at most
 abbrev pub nameRows : ℕ
 nameRows = 1024
@@ -166,7 +173,7 @@ pub record Token : Type 0 where
 abbrev pub token : ℕ → Class → Shape → Token
 token code class shape = record { code = code; class = class; shape = shape }
 
--- `Text n`, `Blob n`, `CodePage n`: the length is a number of at most n bytes (mb32: 5, mb64: 10).
+-- `Text`, `Blob`, `CodePage`: the length is a number of at most so many bytes.
 -- `Date`, `Time`, `ZonedTime` carry the first and the last day number that 01 allows.
 abbrev pub tokens : List Token
 tokens =
@@ -181,19 +188,19 @@ tokens =
     ∷ token 0x09 Value (Fixed 16)  -- SQL-UUID
     ∷ token 0x0A Value Decimal  -- SQL-DECIMAL
     ∷ token 0x0B Value Decimal  -- SQL-NUMERIC
-    ∷ token 0x0C Value (Blob 5)  -- SQL-BINARY
-    ∷ token 0x0D Value (CodePage 5)  -- SQL-CHAR
-    ∷ token 0x0E Value (Text 5)  -- SQL-NCHAR
-    ∷ token 0x0F Value (Blob 10)  -- SQL-VARBINARY
-    ∷ token 0x10 Value (CodePage 10)  -- SQL-VARCHAR
-    ∷ token 0x11 Value (Text 10)  -- SQL-NVARCHAR
+    ∷ token 0x0C Value (Blob mb32)  -- SQL-BINARY
+    ∷ token 0x0D Value (CodePage mb32)  -- SQL-CHAR
+    ∷ token 0x0E Value (Text mb32)  -- SQL-NCHAR
+    ∷ token 0x0F Value (Blob mb64)  -- SQL-VARBINARY
+    ∷ token 0x10 Value (CodePage mb64)  -- SQL-VARCHAR
+    ∷ token 0x11 Value (Text mb64)  -- SQL-NVARCHAR
     ∷ token 0x12 Value (Fixed 8)  -- SQL-DATETIME
     ∷ token 0x13 Value (Fixed 4)  -- SQL-SMALLDATETIME
     ∷ token 0x14 Value (Fixed 4)  -- SQL-SMALLMONEY
-    ∷ token 0x16 Value (CodePage 10)  -- SQL-TEXT
-    ∷ token 0x17 Value (Blob 10)  -- SQL-IMAGE
-    ∷ token 0x18 Value (Text 10)  -- SQL-NTEXT
-    ∷ token 0x1B Value (Blob 5)  -- SQL-UDT
+    ∷ token 0x16 Value (CodePage mb64)  -- SQL-TEXT
+    ∷ token 0x17 Value (Blob mb64)  -- SQL-IMAGE
+    ∷ token 0x18 Value (Text mb64)  -- SQL-NTEXT
+    ∷ token 0x1B Value (Blob mb32)  -- SQL-UDT
     ∷ token 0x7A LaterValue (ZonedTime 0 16777215)  -- XSD-TIMEOFFSET
     ∷ token 0x7B LaterValue (ZonedTime 0 3652058)  -- XSD-DATETIMEOFFSET
     ∷ token 0x7C LaterValue (ZonedTime 0 3652058)  -- XSD-DATEOFFSET
@@ -203,8 +210,8 @@ tokens =
     ∷ token 0x81 Value (Stamp 0)  -- XSD-TIME
     ∷ token 0x82 Value (Stamp 2)  -- XSD-DATETIME
     ∷ token 0x83 Value (Stamp 1)  -- XSD-DATE
-    ∷ token 0x84 Value (Blob 5)  -- XSD-BINHEX
-    ∷ token 0x85 Value (Blob 5)  -- XSD-BASE64
+    ∷ token 0x84 Value (Blob mb32)  -- XSD-BINHEX
+    ∷ token 0x85 Value (Blob mb32)  -- XSD-BASE64
     ∷ token 0x86 Value (Fixed 1)  -- XSD-BOOLEAN
     ∷ token 0x87 Value Decimal  -- XSD-DECIMAL
     ∷ token 0x88 Value (Fixed 1)  -- XSD-BYTE
@@ -213,25 +220,25 @@ tokens =
     ∷ token 0x8B Value (Fixed 8)  -- XSD-UNSIGNEDLONG
     ∷ token 0x8C Value Qname  -- XSD-QNAME
     ∷ token 0xE9 Flush Nothing  -- FLUSH-DEFINED-NAME-TOKENS
-    ∷ token 0xEA Extension (Blob 5)  -- EXTN-TOKEN
+    ∷ token 0xEA Extension (Blob mb32)  -- EXTN-TOKEN
     ∷ token 0xEB EndNest Nothing  -- ENDNEST-TOKEN
     ∷ token 0xEC Nest Nothing  -- NEST-TOKEN
     ∷ token 0xEF QnameDef Nothing  -- QNAMEDEF-TOKEN
-    ∷ token 0xF0 NameDef (Text 5)  -- NAMEDEF-TOKEN
+    ∷ token 0xF0 NameDef (Text mb32)  -- NAMEDEF-TOKEN
     ∷ token 0xF1 CdataEnd Nothing  -- CDATAEND-TOKEN
-    ∷ token 0xF2 Cdata (Text 5)  -- CDATA-TOKEN
-    ∷ token 0xF3 Comment (Text 5)  -- COMMENT-TOKEN
+    ∷ token 0xF2 Cdata (Text mb32)  -- CDATA-TOKEN
+    ∷ token 0xF3 Comment (Text mb32)  -- COMMENT-TOKEN
     ∷ token 0xF4 Pi Nothing  -- PI-TOKEN
     ∷ token 0xF5 EndAttributes Nothing  -- ENDATTRIBUTES-TOKEN
     ∷ token 0xF6 Attribute Qname  -- ATTRIBUTE-TOKEN
     ∷ token 0xF7 EndElement Nothing  -- ENDELEMENT-TOKEN
     ∷ token 0xF8 Element Qname  -- ELEMENT-TOKEN
-    ∷ token 0xF9 Subset (Text 5)  -- SUBSET-TOKEN
-    ∷ token 0xFA Public (Text 5)  -- PUBLIC-TOKEN
-    ∷ token 0xFB System (Text 5)  -- SYSTEM-TOKEN
-    ∷ token 0xFC DocType (Text 5)  -- DOCTYPEDECL-TOKEN
-    ∷ token 0xFD Encoding (Text 5)  -- ENCODING-TOKEN
-    ∷ token 0xFE XmlDecl (Text 5)  -- XMLDECL-TOKEN
+    ∷ token 0xF9 Subset (Text mb32)  -- SUBSET-TOKEN
+    ∷ token 0xFA Public (Text mb32)  -- PUBLIC-TOKEN
+    ∷ token 0xFB System (Text mb32)  -- SYSTEM-TOKEN
+    ∷ token 0xFC DocType (Text mb32)  -- DOCTYPEDECL-TOKEN
+    ∷ token 0xFD Encoding (Text mb32)  -- ENCODING-TOKEN
+    ∷ token 0xFE XmlDecl (Text mb32)  -- XMLDECL-TOKEN
     ∷ []
 
 -- the token of a code; a code that is not listed is no token

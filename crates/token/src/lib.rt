@@ -39,6 +39,11 @@ pub const EVENT_WIDTH: usize = 4;
 // The largest multi-byte number (01, "Document rules").
 pub const LARGEST: usize = 2147483647;
 
+// Bytes of a number, at most (004, section 2.3.2).
+pub const MB32: usize = 5;
+
+pub const MB64: usize = 10;
+
 // The codes of the tokens that are no values, and of XSD-QNAME, by 004's names.
 pub const ENCODING_TOKEN: u8 = 0xFD;
 
@@ -190,12 +195,12 @@ fn shape_from(entry: u16) -> Shape
         3 => Shape::Fixed(4),
         4 => Shape::Fixed(8),
         5 => Shape::Fixed(16),
-        6 => Shape::Text(5),
-        7 => Shape::Text(10),
-        8 => Shape::Blob(5),
-        9 => Shape::Blob(10),
-        10 => Shape::CodePage(5),
-        11 => Shape::CodePage(10),
+        6 => Shape::Text(MB32),
+        7 => Shape::Text(MB64),
+        8 => Shape::Blob(MB32),
+        9 => Shape::Blob(MB64),
+        10 => Shape::CodePage(MB32),
+        11 => Shape::CodePage(MB64),
         12 => Shape::Decimal,
         13 => Shape::Qname,
         14 => Shape::Stamp(0),

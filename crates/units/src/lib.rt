@@ -3,7 +3,9 @@ ghost use mathlib.Core.Path.{_≡_};
 ghost use Prim.Native.Nat.{_+_, _*_, _≤_, _<_};
 ghost use lib.ListN.{length, getD};
 ghost use Rattle.numeral.specs.Numeral.{numeral};
-ghost use Rattle.base64.specs.Base64.{base64, Alphabet};
+ghost use Rattle.numeral.specs.Puts.{smallUnits, smallBytes};
+ghost use Rattle.base64.specs.Base64.{base64};
+ghost use Rattle.base64.specs.Letters.{Alphabet};
 ghost use Rattle.plan.specs.Plans.{unitsBy, NumberFits, PayloadFits};
 ghost use Rattle.units.specs.Units.{UnitsBegin, Loaded};
 use plan::Plan;
@@ -11,23 +13,23 @@ use plan::Plan;
 // ---- a text unit by unit
 
 // Writes the text of a number or of a truth value at the end of small; gives the unit at which it begins.
-pub fn load(plan: Plan, small: &mut [u8; 82]) -> usize
-    requires { ⌜ NumberFits plan × (length (now small) ≡ 82) ⌝ }
+pub fn load(plan: Plan, small: &mut [u8; numeral::SMALL_BYTES]) -> usize
+    requires { ⌜ NumberFits plan × (length (now small) ≡ smallBytes) ⌝ }
     ensures { λ r. ⌜ Loaded plan (now (small .exit)) r ⌝ }
 {
     match plan {
-        Plan::Nothing => 41,
-        Plan::Payload => 41,
+        Plan::Nothing => numeral::SMALL_UNITS,
+        Plan::Payload => numeral::SMALL_UNITS,
         Plan::Number { minus, size, scale } => numeral::render(minus, size, scale, small),
         Plan::Boolean(yes) => numeral::render_truth(yes, small),
-        Plan::HexDigits => 41,
-        Plan::Base64Letters => 41,
+        Plan::HexDigits => numeral::SMALL_UNITS,
+        Plan::Base64Letters => numeral::SMALL_UNITS,
     }
 }
 
 // How many units the text has; `at` is what `load` gave.
 pub fn units(plan: Plan, payload: &[u8], at: usize) -> usize
-    requires { ⌜ PayloadFits plan (now payload) × UnitsBegin plan at × (at ≤ 41) ⌝ }
+    requires { ⌜ PayloadFits plan (now payload) × UnitsBegin plan at × (at ≤ smallUnits) ⌝ }
     ensures { λ r. ⌜ r ≡ length (unitsBy plan (now (payload .entry))) ⌝ }
 {
     match plan {
@@ -37,8 +39,8 @@ pub fn units(plan: Plan, payload: &[u8], at: usize) -> usize
             minus: _,
             size: _,
             scale: _,
-        } => 41 - at,
-        Plan::Boolean(_) => 41 - at,
+        } => numeral::SMALL_UNITS - at,
+        Plan::Boolean(_) => numeral::SMALL_UNITS - at,
         Plan::HexDigits => 2 * payload.len(),
         Plan::Base64Letters => (payload.len() + 2) / 3 * 4,
     }
@@ -59,7 +61,7 @@ pub fn unit(
     alphabet: &[u8; base64::LETTER_COUNT],
     plan: Plan,
     payload: &[u8],
-    small: &[u8; 82],
+    small: &[u8; numeral::SMALL_BYTES],
     at: usize,
     k: usize,
 ) -> u16

@@ -21,7 +21,7 @@ use Rattle.number.proofs.Within.{number-within}
 use Rattle.rules.specs.Rules.{decimalSize, timeBytes, lawful}
 use Rattle.value.specs.declared.Text as declared
 use Rattle.value.specs.declared.Text.the-variants as text
-use Rattle.value.specs.Fields.{needed, textAfter, textAt, textPayload, blobAfter, decimalAfter, timeField, qnamePayload, extentAt, ruled, fieldAt}
+use Rattle.value.specs.Fields.{needed, textJudged, textAt, textPayload, blobAfter, decimalAfter, timeField, qnamePayload, extentAt, ruled, fieldAt}
 use Rattle.value.specs.Bounds.{Lies, Halved, Inside}
 use Rattle.value.specs.declared.Field.{Field}
 use Rattle.value.specs.declared.Field.the-variants.{Payload, Reference, Refused}
@@ -41,9 +41,9 @@ module _ (doc : List ℕ) (place size : ℕ) where
       cond-if (Inside (length doc) at) (leb (place + size) (length doc)) _ _ (λ t. (h, leb-true _ _ t)) (λ t. tt)
 
 module _ (doc : List ℕ) (at : ℕ) {r n : Number} (most : ℕ) (place : ℕ) (e : r ≡ numberAt most doc place) (g : r ≡ n) where
-  pub text-on : textAfter doc n ≡ textAt most doc place
+  pub text-on : textJudged doc n ≡ textAt most doc place
   unfolding textAt
-  text-on = ap (textAfter doc) (sym g ∙ e)
+  text-on = ap (textJudged doc) (sym g ∙ e)
 
   pub blob-on : blobAfter doc n ≡ blobAfter doc (numberAt most doc place)
   blob-on = ap (blobAfter doc) (sym g ∙ e)
@@ -55,10 +55,10 @@ module _ (doc : List ℕ) (at : ℕ) {r n : Number} (most : ℕ) (place : ℕ) (
   qname-on = ap qnamePayload (sym g ∙ e)
 
 -- a text's units, there or not
-pub text-there : (doc : List ℕ) (units next : ℕ) → next + 2 * units ≤ length doc → text.Is next units ≡ textAfter doc (number.Is units next)
+pub text-there : (doc : List ℕ) (units next : ℕ) → next + 2 * units ≤ length doc → text.Is next units ≡ textJudged doc (number.Is units next)
 text-there doc units next h = simp (tests, h)
 
-pub text-short : (doc : List ℕ) (units next : ℕ) → length doc < next + 2 * units → text.Refused missing (length doc) ≡ textAfter doc (number.Is units next)
+pub text-short : (doc : List ℕ) (units next : ℕ) → length doc < next + 2 * units → text.Refused missing (length doc) ≡ textJudged doc (number.Is units next)
 text-short doc units next h = simp (tests, h)
 
 -- a decimal's length, judged
@@ -96,7 +96,7 @@ pub text-lies : (most : ℕ) (doc : List ℕ) (at : ℕ) → Lies (length doc) a
 unfolding textAt
 text-lies most doc at = go (numberAt most doc at) (number-within most doc at)
   where
-    go : (n : Number) → Within (length doc) at n → Lies (length doc) at (textAfter doc n)
+    go : (n : Number) → Within (length doc) at n → Lies (length doc) at (textJudged doc n)
     go (number.Is units next) h =
         cond-if (Lies (length doc) at) (leb (next + 2 * units) (length doc)) _ _ (λ t. (h .0, leb-true _ _ t, h .2)) (λ t. tt)
     go (number.Refused number place) h = tt

@@ -5,7 +5,7 @@ use mathlib.Core.List.{List}
 use lib.Dec.{ltb, leb}
 use lib.ListN.{length, getD}
 use Rattle.sequences.specs.Lists.{part}
-use Rattle.token.specs.Tokens.{missing, badValue}
+use Rattle.token.specs.Tokens.{mb32, missing, badValue}
 use Rattle.token.specs.declared.Shape.{Shape}
 use Rattle.token.specs.declared.Shape.the-variants.{Nothing, Fixed, Text, Blob, CodePage, Decimal, Qname, Stamp, Date, Time, ZonedTime}
 use Rattle.number.specs.Number.{numberAt}
@@ -22,13 +22,13 @@ unfoldable pub needed : List ℕ → ℕ → ℕ → Field
 needed doc place size = cond (leb (place + size) (length doc)) (Payload place size) (Refused missing (length doc))
 
 -- a text: its length in 16-bit units, then that many units
-abbrev pub textAfter : List ℕ → Number → declared.Text
-textAfter doc (number.Is units next) = cond (leb (next + 2 * units) (length doc)) (text.Is next units) (text.Refused missing (length doc))
-textAfter doc (number.Refused number place) = text.Refused number place
+abbrev pub textJudged : List ℕ → Number → declared.Text
+textJudged doc (number.Is units next) = cond (leb (next + 2 * units) (length doc)) (text.Is next units) (text.Refused missing (length doc))
+textJudged doc (number.Refused number place) = text.Refused number place
 
 -- the text whose length stands at a place, in a number of at most `most` bytes: where its units lie, and how many
 unfoldable pub textAt : ℕ → List ℕ → ℕ → declared.Text
-textAt most doc at = textAfter doc (numberAt most doc at)
+textAt most doc at = textJudged doc (numberAt most doc at)
 
 -- a text as a payload, in bytes
 abbrev pub textPayload : declared.Text → Field
@@ -63,8 +63,8 @@ extentAt (Fixed size) doc at = needed doc (at + 1) size
 extentAt (Text most) doc at = textPayload (textAt most doc (at + 1))
 extentAt (Blob most) doc at = blobAfter doc (numberAt most doc (at + 1))
 extentAt (CodePage most) doc at = blobAfter doc (numberAt most doc (at + 1))
-extentAt Decimal doc at = decimalAfter doc at (numberAt 5 doc (at + 1))
-extentAt Qname doc at = qnamePayload (numberAt 5 doc (at + 1))
+extentAt Decimal doc at = decimalAfter doc at (numberAt mb32 doc (at + 1))
+extentAt Qname doc at = qnamePayload (numberAt mb32 doc (at + 1))
 extentAt (Stamp low) doc at = needed doc (at + 1) 8
 extentAt (Date first last) doc at = needed doc (at + 1) 3
 extentAt (Time first last) doc at = timeField doc at 3

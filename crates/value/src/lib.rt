@@ -3,6 +3,7 @@
 ghost use mathlib.Core.Path.{_≡_};
 ghost use Prim.Native.Nat.{_+_, _≤_, _<_};
 ghost use lib.ListN.{length};
+ghost use Rattle.token.specs.Tokens.{mb32};
 ghost use Rattle.number.specs.Number.{numberAt};
 ghost use Rattle.value.specs.Fields.{needed, textAt, textPayload, blobAfter, decimalAfter, timeField, qnamePayload, extentAt, fieldAt};
 ghost use Rattle.value.specs.Bounds.{Halved, Lies, Inside};
@@ -88,9 +89,9 @@ fn blob_at(doc: &[u8], at: usize, most: usize) -> Field
 // `at` is the token's place, for the refusal of the length.
 fn decimal_at(doc: &[u8], at: usize) -> Field
     requires { ⌜ at < length (now doc) ⌝ }
-    ensures { λ r. ⌜ r ≡ decimalAfter (now (doc .entry)) at (numberAt 5 (now (doc .entry)) (at + 1)) ⌝ }
+    ensures { λ r. ⌜ r ≡ decimalAfter (now (doc .entry)) at (numberAt mb32 (now (doc .entry)) (at + 1)) ⌝ }
 {
-    match number::read(doc, at + 1, 5) {
+    match number::read(doc, at + 1, token::MB32) {
         Number::Refused { number, place } => Field::Refused { number, place },
         Number::Is { value, next } => {
             if rules::decimal_size(value) {
@@ -128,9 +129,9 @@ fn time_at(doc: &[u8], at: usize, more: usize) -> Field
 }
 
 fn qname_at(doc: &[u8], at: usize) -> Field
-    ensures { λ r. ⌜ r ≡ qnamePayload (numberAt 5 (now (doc .entry)) at) ⌝ }
+    ensures { λ r. ⌜ r ≡ qnamePayload (numberAt mb32 (now (doc .entry)) at) ⌝ }
 {
-    match number::read(doc, at, 5) {
+    match number::read(doc, at, token::MB32) {
         Number::Refused { number, place } => Field::Refused { number, place },
         Number::Is { value, next } => Field::Reference {
             number: QnameNumber(value),

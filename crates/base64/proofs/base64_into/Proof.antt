@@ -9,9 +9,10 @@ use Rattle.base64.proofs.base64_into.Tie as tie
 
 returns : tie.Need-returns
 returns c =
-    let s = c .before .before .before .before .before .before .before .before .before .before .before .before .before in
+    let at-put-groups = c .before .before .before .before .before .before .before in
+    let s = at-put-groups .before .before .before .before .before .before in
     groups-last (s .args .p .now) (s .args .out .now) (length (s .args .p .now) / 3) (omega arith) (s .pre .1)
-    (c .before .before .before .before .before .before .before .put-groups .ensures) (c .before .before .put-last .ensures)
+    (at-put-groups .put-groups .ensures) (c .before .before .put-last .ensures)
 
 pub base64-into-spec : {M : Type 1} → statement M
 base64-into-spec =

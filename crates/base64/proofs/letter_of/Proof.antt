@@ -1,6 +1,6 @@
 -- `base64::letter_of` meets its contract. The entry of a table of the alphabet. Assumes nothing.
 use borrow.Author.Needs.{needs}
-use Rattle.base64.specs.Base64.{Alphabet}
+use Rattle.base64.specs.Letters.{Alphabet}
 use Rattle.base64.proofs.letter_of.Statement.{statement}
 use Rattle.base64.proofs.letter_of.Tie as tie
 

@@ -52,8 +52,10 @@ returns c =
 
 returns-2 : tie.Need-returns-2
 returns-2 c =
-    let entry = c .before .before .before .before .before .before .before .before .before .before .before .before .before .before .before .before .before .before .before .before .before in
-    let a = entry .args in let p = entry .pre in absurd (not-refused (a .doc .now) (a .start) (p .5) (c .before .before .text-at .ensures .0) (c .enum-told .given .1))
+    let at-text-at = c .before .before in
+    let at-put = at-text-at .before .before .before .before .before .before .before .before .before in
+    let entry = at-put .before .before .before .before .before .before .before .before .before .before in
+    let a = entry .args in let p = entry .pre in absurd (not-refused (a .doc .now) (a .start) (p .5) (at-text-at .text-at .ensures .0) (c .enum-told .given .1))
 
 pub put-pi-spec : {M : Type 1} → statement M
 put-pi-spec =

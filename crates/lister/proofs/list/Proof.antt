@@ -55,17 +55,20 @@ list-tables-requires c κs =
 
 same-length-4 : tie.Need-same-length-4
 same-length-4 c =
-    let at-read = c .before .before .before .before .before .before .before .before .before .before .before .before .before .before .before .before .before .before .before in
+    let at-if1 = c .before .before .before .before .before .before .before .before .before .before .before in
+    let at-read = at-if1 .before .before .before .before .before .before .before .before in
     at-read .read .kept .1 .0
 
 same-length-5 : tie.Need-same-length-5
 same-length-5 c =
-    let at-read = c .before .before .before .before .before .before .before .before .before .before .before .before .before .before .before .before .before .before .before in
+    let at-if1 = c .before .before .before .before .before .before .before .before .before .before .before in
+    let at-read = at-if1 .before .before .before .before .before .before .before .before in
     at-read .read .kept .1 .1 .0
 
 same-length-6 : tie.Need-same-length-6
 same-length-6 c =
-    let at-read = c .before .before .before .before .before .before .before .before .before .before .before .before .before .before .before .before .before .before .before in
+    let at-if1 = c .before .before .before .before .before .before .before .before .before .before .before in
+    let at-read = at-if1 .before .before .before .before .before .before .before .before in
     at-read .read .kept .1 .1 .1 .0
 
 returns-2 : tie.Need-returns-2
@@ -91,17 +94,20 @@ list-tables-requires-2 c κs =
 
 same-length-8 : tie.Need-same-length-8
 same-length-8 c =
-    let at-read = c .before .before .before .before .before .before .before .before .before .before .before .before .before .before .before .before .before .before .before .before in
+    let at-if1 = c .before .before .before .before .before .before .before .before .before .before .before .before in
+    let at-read = at-if1 .before .before .before .before .before .before .before .before in
     at-read .read .kept .1 .0
 
 same-length-9 : tie.Need-same-length-9
 same-length-9 c =
-    let at-read = c .before .before .before .before .before .before .before .before .before .before .before .before .before .before .before .before .before .before .before .before in
+    let at-if1 = c .before .before .before .before .before .before .before .before .before .before .before .before in
+    let at-read = at-if1 .before .before .before .before .before .before .before .before in
     at-read .read .kept .1 .1 .0
 
 same-length-10 : tie.Need-same-length-10
 same-length-10 c =
-    let at-read = c .before .before .before .before .before .before .before .before .before .before .before .before .before .before .before .before .before .before .before .before in
+    let at-if1 = c .before .before .before .before .before .before .before .before .before .before .before .before in
+    let at-read = at-if1 .before .before .before .before .before .before .before .before in
     at-read .read .kept .1 .1 .1 .0
 
 returns-3 : tie.Need-returns-3
@@ -126,17 +132,20 @@ list-tables-requires-3 c κs =
 
 same-length-12 : tie.Need-same-length-12
 same-length-12 c =
-    let at-read = c .before .before .before .before .before .before .before .before .before .before .before .before .before .before .before .before .before .before .before .before in
+    let at-if1 = c .before .before .before .before .before .before .before .before .before .before .before .before in
+    let at-read = at-if1 .before .before .before .before .before .before .before .before in
     at-read .read .kept .1 .0
 
 same-length-13 : tie.Need-same-length-13
 same-length-13 c =
-    let at-read = c .before .before .before .before .before .before .before .before .before .before .before .before .before .before .before .before .before .before .before .before in
+    let at-if1 = c .before .before .before .before .before .before .before .before .before .before .before .before in
+    let at-read = at-if1 .before .before .before .before .before .before .before .before in
     at-read .read .kept .1 .1 .0
 
 same-length-14 : tie.Need-same-length-14
 same-length-14 c =
-    let at-read = c .before .before .before .before .before .before .before .before .before .before .before .before .before .before .before .before .before .before .before .before in
+    let at-if1 = c .before .before .before .before .before .before .before .before .before .before .before .before in
+    let at-read = at-if1 .before .before .before .before .before .before .before .before in
     at-read .read .kept .1 .1 .1 .0
 
 returns-4 : tie.Need-returns-4

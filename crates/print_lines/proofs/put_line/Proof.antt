@@ -20,8 +20,10 @@ put-field-requires c κs =
 
 put-field-requires-2 : tie.Need-put-field-requires-2
 put-field-requires-2 c κs =
-    let x = c .before .before .before .before .before .before .before .before .before .before .before .before .before in
-    left (field (x .args .first .now) (x .args .a)) (both-put (c .before .before .before .before .before .before .before .put-word .ensures) (c .before .before .before .put-field .ensures)) (x .pre .0) (x .pre .1)
+    let at-put-field = c .before .before .before in
+    let at-put-word = at-put-field .before .before .before .before in
+    let x = at-put-word .before .before .before .before .before .before in
+    left (field (x .args .first .now) (x .args .a)) (both-put (at-put-word .put-word .ensures) (at-put-field .put-field .ensures)) (x .pre .0) (x .pre .1)
 
 returns : tie.Need-returns
 returns c =

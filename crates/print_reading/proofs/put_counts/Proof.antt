@@ -16,11 +16,13 @@ put-field-requires c κs =
 
 put-field-requires-2 : tie.Need-put-field-requires-2
 put-field-requires-2 c κs =
-    let x = c .before .before .before .before .before .before .before .before .before .before .before .before .before in
+    let at-put-field = c .before .before .before .before in
+    let at-put-word = at-put-field .before .before .before .before .before in
+    let x = at-put-word .before .before .before .before in
     let v = field-long versionWord (x .args .version) (omega (arith, x .fits .version)) in
     let e = field-long eventsWord (x .args .events) (omega (arith, x .fits .events)) in
-    let p0 = c .before .before .before .before .before .before .before .before .before .put-word .ensures in
-    let p1 = c .before .before .before .before .put-field .ensures in
+    let p0 = at-put-word .put-word .ensures in
+    let p1 = at-put-field .put-field .ensures in
     (omega (arith, x .pre .0, v, e, p0 .place, p1 .place), omega (arith, x .pre .1, p0 .place, p1 .place, p0 .long, p1 .long))
 
 put-field-requires-3 : tie.Need-put-field-requires-3

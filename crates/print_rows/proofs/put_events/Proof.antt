@@ -54,13 +54,14 @@ loop-less c = omega (arith, c .before .before .before .before .before .before .b
 
 loop-again : tie.Need-loop-again Inv-loop μ-loop
 loop-again c =
-    let x = c .before .before .before .before .before .before .before .before .before .before .before .before .before in
-    let f = c .before .before .before .before .before .before .before .before .before .before .loop .inv in
+    let at-loop = c .before .before .before .before .before .before .before .before .before .before in
+    let x = at-loop .before .before .before in
+    let f = at-loop .loop .inv in
     let p = c .before .before .before .before .before .before .before .put-numbers .ensures in
     let q = c .before .before .put-token .ensures in
     let more = c .before .before .before .before .before .before .before .before .before .loop-test .taken in
     rows-next _ f (both-put (p .0) (q .0))
-    (events-next (x .args .events .now) (x .args .rows) (c .before .before .before .before .before .before .before .before .before .before .loop .k) (omega (arith, more)) (f .few) (x .pre .0) (c .before .before .before .cell .ensures .0))
+    (events-next (x .args .events .now) (x .args .rows) (at-loop .loop .k) (omega (arith, more)) (f .few) (x .pre .0) (c .before .before .before .cell .ensures .0))
     (omega (arith, p .1, q .1, f .roomy, more))
 
 same-length : tie.Need-same-length Inv-loop μ-loop

@@ -25,12 +25,13 @@ put-shown-requires c κs =
 
 returns-2 : tie.Need-returns-2
 returns-2 c =
-    let x = c .before .before .before .before .before .before .before .before .before .before .before .before .before in
-    let b : Bytes (x .args .input .now) = record { each = λ k. omega (arith, c .before .before .before .before .before .before .before .before .before .before .before .before .shared-slice-known .given k) } in
+    let at-if1 = c .before .before .before .before .before .before .before .before .before .before in
+    let x = at-if1 .before .before .before in
+    let b : Bytes (x .args .input .now) = record { each = λ k. omega (arith, at-if1 .before .before .shared-slice-known .given k) } in
     let e = payload-is (x .args .input .now) in
     let p = c .before .before .put-shown .ensures in
     let l = lines-shown (rw e (rest-bytes b)) (c .before .before .before .before .before .before .show .ensures) (length-replicate {A = ℕ} 262226 0) in
-    (whole-put (x .pre) p (l ∙ rw e (sym (printed-some (x .args .input .now) (c .before .before .before .before .before .before .before .before .before .before .if1 .left)))), omega (arith, p .place))
+    (whole-put (x .pre) p (l ∙ rw e (sym (printed-some (x .args .input .now) (at-if1 .if1 .left)))), omega (arith, p .place))
 
 pub print-spec : {M : Type 1} → statement M
 print-spec =

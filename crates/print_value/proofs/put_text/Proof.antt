@@ -10,8 +10,9 @@ use Rattle.print_value.proofs.put_text.Tie as tie
 
 put-word-requires-2 : tie.Need-put-word-requires-2
 put-word-requires-2 c κs =
-    let x = c .before .before .before .before .before .before .before .before .before .before .before .before .before in
-    let p = c .before .before .before .before .before .before .before .before .put-word .ensures in
+    let at-put-word = c .before .before .before .before .before .before .before .before in
+    let x = at-put-word .before .before .before .before .before in
+    let p = at-put-word .put-word .ensures in
     let q = c .before .before .before .before .put-hex .ensures in
     let l = length-hex (x .args .text .now) in
     (omega (arith, x .pre .1, l, p .place, q .place), omega (arith, x .pre .0, p .place, p .long, q .place, q .long))

@@ -38,22 +38,29 @@ write-form-requires c κs =
 
 same-length-4 : tie.Need-same-length-4
 same-length-4 c =
-    let at-read = c .before .before .before .before .before .before .before .before .before .before .before .before .before .before .before .before .before .before .before .before .before .before .before .before .before .before .before in
+    let at-qname-classes = c .before .before .before .before .before .before .before .before .before .before in
+    let at-if1 = at-qname-classes .before .before .before .before .before .before .before .before .before in
+    let at-read = at-if1 .before .before .before .before .before .before .before .before in
     at-read .read .kept .1 .0
 
 same-length-5 : tie.Need-same-length-5
 same-length-5 c =
-    let at-read = c .before .before .before .before .before .before .before .before .before .before .before .before .before .before .before .before .before .before .before .before .before .before .before .before .before .before .before in
+    let at-qname-classes = c .before .before .before .before .before .before .before .before .before .before in
+    let at-if1 = at-qname-classes .before .before .before .before .before .before .before .before .before in
+    let at-read = at-if1 .before .before .before .before .before .before .before .before in
     at-read .read .kept .1 .1 .0
 
 same-length-6 : tie.Need-same-length-6
 same-length-6 c =
-    let at-read = c .before .before .before .before .before .before .before .before .before .before .before .before .before .before .before .before .before .before .before .before .before .before .before .before .before .before .before in
+    let at-qname-classes = c .before .before .before .before .before .before .before .before .before .before in
+    let at-if1 = at-qname-classes .before .before .before .before .before .before .before .before .before in
+    let at-read = at-if1 .before .before .before .before .before .before .before .before in
     at-read .read .kept .1 .1 .1 .0
 
 returns-2 : tie.Need-returns-2
 returns-2 c =
-    let at-if1 = c .before .before .before .before .before .before .before .before .before .before .before .before .before .before .before .before .before .before .before in
+    let at-qname-classes = c .before .before .before .before .before .before .before .before .before .before in
+    let at-if1 = at-qname-classes .before .before .before .before .before .before .before .before .before in
     let at-read = at-if1 .before .before .before .before .before .before .before .before in
     let entry = at-read .before .before .before .before .before .before .before .before .before in
     let a = entry .args in formed (a .doc .now) (at-read .read .ensures) (at-if1 .if1 .left) (a .out .now) _ (c .before .before .write-form .ensures)

@@ -6,10 +6,10 @@ use Rattle.scan.proofs.end_step.Statement.{statement}
 use Rattle.scan.proofs.end_step.Tie as tie
 
 returns : tie.Need-returns
-returns c = end-accepted _ (c .before .before .before .before .before .before .args .v) (c .before .before .before .both .ensures) (c .before .both2 .ensures ∙ rw (c .before .before .number-of .ensures)) (c .if1 .taken)
+returns c = end-accepted _ (c .before .before .before .before .before .before .args .v) (c .before .before .before .both .ensures) (c .before .both2 .ensures ∙ rw (c .before .before .mode-number .ensures)) (c .if1 .taken)
 
 returns-2 : tie.Need-returns-2
-returns-2 c = end-missing _ (c .before .before .before .before .before .before .args .v) (c .before .before .before .both .ensures) (c .before .both2 .ensures ∙ rw (c .before .before .number-of .ensures)) (c .if1 .left)
+returns-2 c = end-missing _ (c .before .before .before .before .before .before .args .v) (c .before .before .before .both .ensures) (c .before .both2 .ensures ∙ rw (c .before .before .mode-number .ensures)) (c .if1 .left)
 
 pub end-step-spec : {M : Type 1} → statement M
 end-step-spec =

@@ -10,10 +10,10 @@ returns : tie.Need-returns
 returns c = let e = c .end-step .ensures ∙ ended (c .before .before .before .args .doc .now) (c .before .before .before .args .v) (c .before .before .before .args .room) (c .before .if1 .taken) in (e, found-fine (c .before .before .before .args .doc .now) (c .before .before .before .args .v) (c .before .before .before .args .room) e)
 
 returns-2 : tie.Need-returns-2
-returns-2 c = let e = c .declared-step .ensures ∙ in-declaration (c .before .before .before .before .before .before .args .doc .now) (c .before .before .before .before .before .before .args .v) (c .before .before .before .before .before .before .args .room) (c .before .before .before .before .if1 .left) (c .before .before .before .number-of .ensures) (c .before .before .if2 .taken) refl in (e, found-fine (c .before .before .before .before .before .before .args .doc .now) (c .before .before .before .before .before .before .args .v) (c .before .before .before .before .before .before .args .room) e)
+returns-2 c = let e = c .declared-step .ensures ∙ in-declaration (c .before .before .before .before .before .before .args .doc .now) (c .before .before .before .before .before .before .args .v) (c .before .before .before .before .before .before .args .room) (c .before .before .before .before .if1 .left) (c .before .before .before .mode-number .ensures) (c .before .before .if2 .taken) refl in (e, found-fine (c .before .before .before .before .before .before .args .doc .now) (c .before .before .before .before .before .before .args .v) (c .before .before .before .before .before .before .args .room) e)
 
 returns-3 : tie.Need-returns-3
-returns-3 c = let e = c .token-step .ensures ∙ at-token (c .before .before .before .before .before .before .args .doc .now) (c .before .before .before .before .before .before .args .v) (c .before .before .before .before .before .before .args .room) (c .before .before .before .before .if1 .left) (c .before .before .before .number-of .ensures) (c .before .before .if2 .left) refl in (e, found-fine (c .before .before .before .before .before .before .args .doc .now) (c .before .before .before .before .before .before .args .v) (c .before .before .before .before .before .before .args .room) e)
+returns-3 c = let e = c .token-step .ensures ∙ at-token (c .before .before .before .before .before .before .args .doc .now) (c .before .before .before .before .before .before .args .v) (c .before .before .before .before .before .before .args .room) (c .before .before .before .before .if1 .left) (c .before .before .before .mode-number .ensures) (c .before .before .if2 .left) refl in (e, found-fine (c .before .before .before .before .before .before .args .doc .now) (c .before .before .before .before .before .before .args .v) (c .before .before .before .before .before .before .args .room) e)
 
 pub step-at-spec : {M : Type 1} → statement M
 step-at-spec =
