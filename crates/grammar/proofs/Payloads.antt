@@ -76,14 +76,14 @@ module _ (doc : List ℕ) where
 
   timed : {place time : ℕ} → SqlTime doc place time → Timed place time
   unfolding timeBytes
-  timed {place} (payloads.three b h) =
+  timed {place} (payloads.three-bytes b h) =
       let l : getD doc place 0 ≤ 2 = rw (b .is) h in
       record { inside = b .inside; low = omega arith; is = simp (tests, (let q : getD doc place 0 < 3 = omega arith in q)) }
-  timed {place} (payloads.four b g h) =
+  timed {place} (payloads.four-bytes b g h) =
       let k : 3 ≤ getD doc place 0 = rw (b .is) g in
       let l : getD doc place 0 ≤ 4 = rw (b .is) h in
       record { inside = b .inside; low = omega arith; is = simp (tests, k, (let q : getD doc place 0 < 5 = omega arith in q)) }
-  timed {place} (payloads.five b g h) =
+  timed {place} (payloads.five-bytes b g h) =
       let k : 5 ≤ getD doc place 0 = rw (b .is) g in
       let l : getD doc place 0 ≤ 7 = rw (b .is) h in
       record { inside = b .inside; low = l; is = simp (tests, k, (let q : 3 ≤ getD doc place 0 = omega arith in q)) }
@@ -96,9 +96,9 @@ module _ (doc : List ℕ) where
       b = record { inside = i; is = refl }
 
       go : Dec (getD doc place 0 < 3) → Dec (getD doc place 0 < 5) → SqlTime doc place (1 + timeBytes (getD doc place 0))
-      go (yes k) l = rw (lt-ltb _ _ k) (payloads.three b (omega arith))
-      go (no k) (yes l) = rw (le-ltb (getD doc place 0) 3 (omega arith), lt-ltb _ _ l) (payloads.four b (omega arith) (omega arith))
-      go (no k) (no l) = rw (le-ltb (getD doc place 0) 3 (omega arith), le-ltb (getD doc place 0) 5 (omega arith)) (payloads.five b (omega arith) h)
+      go (yes k) l = rw (lt-ltb _ _ k) (payloads.three-bytes b (omega arith))
+      go (no k) (yes l) = rw (le-ltb (getD doc place 0) 3 (omega arith), lt-ltb _ _ l) (payloads.four-bytes b (omega arith) (omega arith))
+      go (no k) (no l) = rw (le-ltb (getD doc place 0) 3 (omega arith), le-ltb (getD doc place 0) 5 (omega arith)) (payloads.five-bytes b (omega arith) h)
 
   -- ---- found: derived
 

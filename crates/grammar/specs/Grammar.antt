@@ -52,9 +52,9 @@ pub data DecimalSize : ℕ → Type 0 where
 module _ (doc : List ℕ) where
   -- sqltime = (%x00-02 3byte) / (%x03-04 4byte) / (%x05-07 5byte): so many bytes with the precision
   pub data SqlTime (place : ℕ) : ℕ → Type 0 where
-    three : {precision : ℕ} → Byte doc place precision → precision ≤ 2 → SqlTime place 4
-    four : {precision : ℕ} → Byte doc place precision → 3 ≤ precision → precision ≤ 4 → SqlTime place 5
-    five : {precision : ℕ} → Byte doc place precision → 5 ≤ precision → precision ≤ 7 → SqlTime place 6
+    three-bytes : {precision : ℕ} → Byte doc place precision → precision ≤ 2 → SqlTime place 4
+    four-bytes : {precision : ℕ} → Byte doc place precision → 3 ≤ precision → precision ≤ 4 → SqlTime place 5
+    five-bytes : {precision : ℕ} → Byte doc place precision → 5 ≤ precision → precision ≤ 7 → SqlTime place 6
 
   -- sqldate = 3byte, little-endian; 01: from the first to the last day
   pub record SqlDate (first last place : ℕ) : Type 0 where

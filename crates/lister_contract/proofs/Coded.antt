@@ -26,7 +26,7 @@ use Rattle.plan.specs.Text.{textOf}
 use Rattle.classes.specs.Classes.{textsOf}
 use Rattle.classes.proofs.Classes as classes
 use Rattle.classes.proofs.Classes.{number-empty, number-some, same-class, name-known, name-text-at, length-texts}
-use Rattle.meaning.specs.Meaning.{Symbol, unit, opening, ending, attribute, closing, value, qname, Attribute, none-open, counted, skipped, declares, closed, unless, shownAs, namedSymbols, plainSymbols, symbolsOf, attributeAfter, depthAfter, inside, begins, onto, newIf, pieces, rest, meanings, sameMeaning, pairsOf}
+use Rattle.meaning.specs.Meaning.{Symbol, unit, opening, ending, attribute, closing, value, qname, OpenAttribute, none-open, counted, skipped, declares, closed, unless, shownAs, namedSymbols, plainSymbols, symbolsOf, attributeAfter, depthAfter, inside, begins, onto, newIf, pieces, rest, meanings, sameMeaning, pairsOf}
 use Rattle.meaning.specs.Codes.{codesOf, Classes, Coded}
 use Rattle.meaning.proofs.Codes.{codes-pairs}
 use Rattle.render.specs.Render.{Renderable}
@@ -161,12 +161,12 @@ module _ (K : List ℕ → Type 0) where
   one : (s : Symbol) → Coded K s → Every (Coded K) (s ∷ [])
   one s h = first h none
 
-  closed-coded : (q : Attribute) → Every (Coded K) (closed q)
+  closed-coded : (q : OpenAttribute) → Every (Coded K) (closed q)
   closed-coded none-open = none
   closed-coded counted = one closing tt
   closed-coded skipped = none
 
-  unless-coded : (q : Attribute) {l : List Symbol} → Every (Coded K) l → Every (Coded K) (unless q l)
+  unless-coded : (q : OpenAttribute) {l : List Symbol} → Every (Coded K) l → Every (Coded K) (unless q l)
   unless-coded none-open h = h
   unless-coded counted h = h
   unless-coded skipped h = none
@@ -176,7 +176,7 @@ module _ (K : List ℕ → Type 0) where
   shown-coded code payload none e h = one (value code payload) h
   shown-coded code payload (some units) e h = units-coded (text-low code payload units (h .1) e)
 
-  symbols-coded : (q : Attribute) (e : Event) → CodedEvent K e → Every (Coded K) (symbolsOf q e)
+  symbols-coded : (q : OpenAttribute) (e : Event) → CodedEvent K e → Every (Coded K) (symbolsOf q e)
   unfolding namedSymbols plainSymbols
   symbols-coded q (texted code t) h =
       cond-if (Every (Coded K)) (eqb code 0xF2) _ _ (λ _. units-coded (units-low t h)) (λ _. none)
@@ -202,7 +202,7 @@ module _ (K : List ℕ → Type 0) where
   new-coded true h = first none h
   new-coded false h = h
 
-  pieces-coded : (depth : ℕ) (q : Attribute) (es : List Event) → Every (CodedEvent K) es → Every (Every (Coded K)) (pieces depth q es)
+  pieces-coded : (depth : ℕ) (q : OpenAttribute) (es : List Event) → Every (CodedEvent K) es → Every (Every (Coded K)) (pieces depth q es)
   unfolding pieces
   pieces-coded depth q [] none = first none none
   pieces-coded depth q (e ∷ es) (first h hs) =

@@ -71,10 +71,10 @@ pub data Symbol : Type 0 where
   qname : List ℕ → List ℕ → Symbol
 
 -- whether an attribute is open, and whether it counts
-pub data Attribute : Type 0 where
-  none-open : Attribute
-  counted : Attribute
-  skipped : Attribute
+pub data OpenAttribute : Type 0 where
+  none-open : OpenAttribute
+  counted : OpenAttribute
+  skipped : OpenAttribute
 
 -- the bytes of "xmlns", and of ":"
 abbrev pub xmlns : List ℕ
@@ -86,13 +86,13 @@ declares uri prefix local =
     same uri [] && (same local [] && (same prefix xmlns || same (take 12 prefix) (xmlns ++ (0x3A ∷ 0 ∷ []))))
 
 -- the mark that closes an open attribute
-abbrev pub closed : Attribute → List Symbol
+abbrev pub closed : OpenAttribute → List Symbol
 closed none-open = []
 closed counted = closing ∷ []
 closed skipped = []
 
 -- values of a skipped attribute do not count
-abbrev pub unless : Attribute → List Symbol → List Symbol
+abbrev pub unless : OpenAttribute → List Symbol → List Symbol
 unless none-open l = l
 unless counted l = l
 unless skipped l = []
@@ -103,17 +103,17 @@ shownAs token payload none = value token payload ∷ []
 shownAs token payload (some units) = map unit units
 
 -- ELEMENT, ATTRIBUTE, XSD-QNAME
-unfoldable pub namedSymbols : Attribute → ℕ → List ℕ → List ℕ → List ℕ → List Symbol
+unfoldable pub namedSymbols : OpenAttribute → ℕ → List ℕ → List ℕ → List ℕ → List Symbol
 namedSymbols q token uri prefix local =
     cond (eqb token ELEMENT-TOKEN) (opening uri local ∷ [])
     (cond (eqb token ATTRIBUTE-TOKEN) (closed q ++ cond (declares uri prefix local) [] (attribute uri local ∷ [])) (unless q (qname uri local ∷ [])))
 
 -- ENDELEMENT; ENDATTRIBUTES closes the last attribute
-unfoldable pub plainSymbols : Attribute → ℕ → List Symbol
+unfoldable pub plainSymbols : OpenAttribute → ℕ → List Symbol
 plainSymbols q token = cond (eqb token ENDELEMENT-TOKEN) (ending ∷ []) (cond (eqb token ENDATTRIBUTES-TOKEN) (closed q) [])
 
 -- what an event inside a record adds to its meaning; nothing else counts
-abbrev pub symbolsOf : Attribute → Event → List Symbol
+abbrev pub symbolsOf : OpenAttribute → Event → List Symbol
 symbolsOf q (texted token t) = cond (eqb token CDATA-TOKEN) (map unit (unitsOf t)) []
 symbolsOf q (standalone b) = []
 symbolsOf q (pi target t) = []
@@ -122,7 +122,7 @@ symbolsOf q (valued token payload) = unless q (shownAs token payload (textOf tok
 symbolsOf q (nest version) = []
 symbolsOf q (plain token) = plainSymbols q token
 
-abbrev pub attributeAfter : Attribute → Event → Attribute
+abbrev pub attributeAfter : OpenAttribute → Event → OpenAttribute
 attributeAfter q (texted token t) = q
 attributeAfter q (standalone b) = q
 attributeAfter q (pi target t) = q
@@ -174,7 +174,7 @@ newIf true ps = [] ∷ ps
 newIf false ps = ps
 
 -- the rest of the record that is open, then the records that begin in these events
-unfoldable pub pieces : ℕ → Attribute → List Event → List (List Symbol)
+unfoldable pub pieces : ℕ → OpenAttribute → List Event → List (List Symbol)
 pieces depth q [] = [] ∷ []
 pieces depth q (e ∷ es) =
     newIf (begins depth e) (onto (cond (inside depth e) (symbolsOf q e) []) (pieces (depthAfter depth e) (attributeAfter q e) es))

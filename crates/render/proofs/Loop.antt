@@ -12,7 +12,7 @@ use Rattle.sequences.specs.Lists.{Bytes}
 use Rattle.machine.specs.Machine.{EventRow, event, Event, eventOf}
 use Rattle.machine.specs.Tables.{nameRowsIn, qnameRowsIn, eventRowsIn, eventsIn}
 use Rattle.machine.proofs.Tables.{event-rows-from, length-event-rows}
-use Rattle.meaning.specs.Meaning.{Symbol, Attribute, none-open, symbolsOf, attributeAfter, depthAfter, inside, begins, onto, newIf, pieces, rest, meanings}
+use Rattle.meaning.specs.Meaning.{Symbol, OpenAttribute, none-open, symbolsOf, attributeAfter, depthAfter, inside, begins, onto, newIf, pieces, rest, meanings}
 use Rattle.meaning.specs.Codes.{codesOf}
 use Rattle.meaning.proofs.Codes.{codes-append}
 use Rattle.hash.specs.Hash.{hashFrom, hashOf, seed}
@@ -130,12 +130,12 @@ module _ {doc names qnames events classes marks : List ℕ} {rows qrows count : 
       go true f = s .codes q ∙ codes-open doc marks q (e .token) (e .a) (e .b) f
       go false f = s .codes q
 
-pieces-step : (depth : ℕ) (q : Attribute) (e : Event) (es : List Event)
+pieces-step : (depth : ℕ) (q : OpenAttribute) (e : Event) (es : List Event)
     → pieces depth q (e ∷ es) ≡ newIf (begins depth e) (onto (cond (inside depth e) (symbolsOf q e) []) (pieces (depthAfter depth e) (attributeAfter q e) es))
 unfolding pieces
 pieces-step depth q e es = refl
 
-pieces-end : (depth : ℕ) (q : Attribute) → pieces depth q [] ≡ [] ∷ []
+pieces-end : (depth : ℕ) (q : OpenAttribute) → pieces depth q [] ≡ [] ∷ []
 unfolding pieces
 pieces-end depth q = refl
 

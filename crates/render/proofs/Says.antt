@@ -22,7 +22,7 @@ use Rattle.machine.specs.Facts.{textTokens, qnameTokens, bareTokens, EventFits}
 use Rattle.machine.specs.Tables.{nameRowsIn, qnameRowsIn}
 use Rattle.machine.proofs.Facts.{every-one-of}
 use Rattle.plan.specs.Text.{textOf}
-use Rattle.meaning.specs.Meaning.{Symbol, Attribute, none-open, counted, skipped, unit, attribute, value, qname, declares, closed, unless, shownAs, namedSymbols, plainSymbols, symbolsOf, attributeAfter, opens, closes}
+use Rattle.meaning.specs.Meaning.{Symbol, OpenAttribute, none-open, counted, skipped, unit, attribute, value, qname, declares, closed, unless, shownAs, namedSymbols, plainSymbols, symbolsOf, attributeAfter, opens, closes}
 use Rattle.meaning.specs.Codes.{mark, both, codesOf}
 use Rattle.meaning.proofs.Codes.{codes-append}
 use Rattle.render.specs.Render.{Renderable}
@@ -151,8 +151,8 @@ module _ {doc names qnames events classes marks : List ℕ} {rows qrows count : 
 
   -- an event that adds nothing, and a token that is none of those that count
   record Quiet (ev : Event) : Type 0 where
-    pub adds : (q : Attribute) → symbolsOf q ev ≡ []
-    pub keeps : (q : Attribute) → attributeAfter q ev ≡ q
+    pub adds : (q : OpenAttribute) → symbolsOf q ev ≡ []
+    pub keeps : (q : OpenAttribute) → attributeAfter q ev ≡ q
     pub opens-not : opens ev ≡ false
     pub closes-not : closes ev ≡ false
 
@@ -189,7 +189,7 @@ module _ {doc names qnames events classes marks : List ℕ} {rows qrows count : 
       skip true = refl
       skip false = refl
 
-  still : (ev : Event) → ((q : Attribute) → symbolsOf q ev ≡ []) → ((q : Attribute) → attributeAfter q ev ≡ q) → opens ev ≡ false → closes ev ≡ false → Quiet ev
+  still : (ev : Event) → ((q : OpenAttribute) → symbolsOf q ev ≡ []) → ((q : OpenAttribute) → attributeAfter q ev ≡ q) → opens ev ≡ false → closes ev ≡ false → Quiet ev
   still ev a k o c = record { adds = a; keeps = k; opens-not = o; closes-not = c }
 
   other : (x : ℕ) → eqb x 0xF8 ≡ false → eqb x 0xF6 ≡ false → eqb x 0xF5 ≡ false → eqb x 0xF7 ≡ false → eqb x 0xF2 ≡ false → eqb x 0x8C ≡ false → isValue x ≡ false → Other x
@@ -352,7 +352,7 @@ module _ {doc names qnames events classes marks : List ℕ} {rows qrows count : 
       → Says (event token p row 0) (qnamed token (uriAt doc names qnames rows row) (prefixAt doc names qnames rows row) (localAt doc names qnames rows row)) → Says (event token p row 0) ev
   says-row token p row ev e s = rw e s
 
-  silent : (x : ℕ) → Other x → (q : Attribute) → plainSymbols q x ≡ []
+  silent : (x : ℕ) → Other x → (q : OpenAttribute) → plainSymbols q x ≡ []
   unfolding plainSymbols
   silent x o q = rw (o .not-F7, o .not-F5)
 

@@ -9,7 +9,7 @@ use Rattle.sequences.specs.Lists.{part, unitsOf}
 use Rattle.token.specs.Tokens.{shapeOf, XSD-QNAME, ELEMENT-TOKEN, ATTRIBUTE-TOKEN, ENDATTRIBUTES-TOKEN, ENDELEMENT-TOKEN, CDATA-TOKEN, qnameRows, longest}
 use Rattle.rules.specs.Rules.{lawful}
 use Rattle.plan.specs.Text.{textOf}
-use Rattle.meaning.specs.Meaning.{Attribute, none-open, counted, skipped}
+use Rattle.meaning.specs.Meaning.{OpenAttribute, none-open, counted, skipped}
 use Rattle.meaning.specs.Codes.{mark, attributeKind, qnameKind, endKind, closingKind}
 use Rattle.symbols.specs.Values.{valueCodes}
 use Rattle.marks.specs.Marks.{openingIn, declaredIn}
@@ -24,7 +24,7 @@ countedOpen = 1
 abbrev pub skippedOpen : ℕ
 skippedOpen = 2
 
-abbrev pub attributeOf : ℕ → Attribute
+abbrev pub attributeOf : ℕ → OpenAttribute
 attributeOf q = cond (eqb q countedOpen) counted (cond (eqb q skippedOpen) skipped none-open)
 
 -- the codes of values are those from 01 to 9F (004, section 2), so no class is looked up
