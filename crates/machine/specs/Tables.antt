@@ -7,6 +7,16 @@ use Rattle.sequences.specs.Arrays.{Every}
 use Rattle.machine.specs.Facts.{NameFits, QnameFits, Placed}
 use Rattle.token.specs.Tokens.{nameWidth, qnameWidth, eventWidth, longest, nameRows, qnameRows, eventRows}
 
+-- the numbers of each table at its full bounds
+abbrev pub nameTable : ℕ
+nameTable = nameWidth * nameRows
+
+abbrev pub qnameTable : ℕ
+qnameTable = qnameWidth * qnameRows
+
+abbrev pub eventTable : ℕ
+eventTable = eventWidth * eventRows
+
 -- the classes of texts of names: 0 for the empty text, and the number of a row
 abbrev pub classCount : ℕ
 classCount = 1025

@@ -12,7 +12,9 @@ use Rattle.lister_contract.specs.Contract.{pairsIn, pairRoom, listOf, Lists}
 use Rattle.lister_contract.proofs.Theorems.{accepted-both, answer-counts}
 use Rattle.print_lines.specs.Lines.{PutBefore, line, refusedWord, atWord}
 use Rattle.print_lines.proofs.Laws.{both-put, whole-put}
-use Rattle.print_listing.specs.Printed.{recordsWord, pairsWord, pairLines, answerLines, printed, pairRows, FullListed}
+use Rattle.print_listing.specs.Printed.{listedPairs, recordsWord, pairsWord, pairLines, answerLines, printed, pairRows, FullListed}
+use Rattle.machine.specs.Tables.{nameTable, qnameTable, eventTable}
+use Rattle.print_listing.specs.Room.{pairNumbers}
 
 -- the pairs of a list of pairs' numbers, whatever follows them
 pub rows-back : (ps : List Pair) (t : List ℕ) → pairRows (length ps) (flatPairs ps ++ t) ≡ ps
@@ -21,12 +23,12 @@ rows-back (p ∷ ps) t = ap (λ (l : List Pair). p ∷ l) (rows-back ps t)
 
 -- tables of these lengths have the full bounds, and the list 8,192 pairs
 pub full-listed : {doc names qnames events list names′ qnames′ events′ list′ : List ℕ} {a : Answer}
-    → length names ≡ 2048 → length qnames ≡ 3072 → length events ≡ 16384 → length list ≡ 16384
+    → length names ≡ nameTable → length qnames ≡ qnameTable → length events ≡ eventTable → length list ≡ pairNumbers
     → Lists doc (reading doc (roomIn (length names) (length qnames) (length events))) names qnames events list names′ qnames′ events′ list′ a
     → FullListed doc list list′ a
 full-listed {doc} {names} {qnames} {events} {list} x y z w h =
     let e : roomIn (length names) (length qnames) (length events) ≡ full = rw (x, y, z) refl in
-    let p : pairRoom list ≡ 8192 = rw w refl in
+    let p : pairRoom list ≡ listedPairs = rw w refl in
     record { answer-is = h .answer-is ∙ rw (e, p); list-is = h .list-is ∙ rw e }
 
 module _ {doc list list′ : List ℕ} {a : Answer} (f : FullListed doc list list′ a) where
@@ -36,7 +38,7 @@ module _ {doc list list′ : List ℕ} {a : Answer} (f : FullListed doc list lis
   unfolding printed answerLines
   refusal-printed n p = whole-put refl p (rw (← f .answer-is) (simp (tests, n)))
 
-  module _ (ok : a .number ≡ 0) (w : length list ≡ 16384) where
+  module _ (ok : a .number ≡ 0) (w : length list ≡ pairNumbers) where
     abbrev ps : List Pair
     ps = pairsIn doc (reading doc full)
 
@@ -49,7 +51,7 @@ module _ {doc list list′ : List ℕ} {a : Answer} (f : FullListed doc list lis
     pub pairs-there : list′ ≡ overlay (flatPairs ps) list
     unfolding listOf
     pairs-there =
-        let p : pairRoom list ≡ 8192 = rw w refl in
+        let p : pairRoom list ≡ listedPairs = rw w refl in
         f .list-is ∙ rw (p, ← f .answer-is) (simp (tests, ok))
 
     rows-are : pairRows (a .pairs) list′ ≡ ps

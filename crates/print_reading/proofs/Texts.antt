@@ -5,7 +5,7 @@ use mathlib.Core.List.{List, _++_}
 use native.Mathlib.Omega.{arith}
 use lib.ListN.{length, take}
 use Rattle.machine.specs.Machine.{reading, roomIn, Reads, full}
-use Rattle.machine.specs.Tables.{nameRowsIn, qnameRowsIn, eventRowsIn}
+use Rattle.machine.specs.Tables.{nameTable, qnameTable, eventTable, nameRowsIn, qnameRowsIn, eventRowsIn}
 use Rattle.machine.specs.declared.Answer.{Answer}
 use Rattle.filled.proofs.Rooms.{rows-few}
 use Rattle.filled.proofs.Filled.{names-read, qnames-read, events-read, names-back, qnames-back, events-back}
@@ -19,7 +19,7 @@ pub answer-put : (a : Answer) {t t₁ t₂ : List ℕ} {end mid at : ℕ} → Pu
 unfolding answerLine
 answer-put a p q = both-put p q
 
-module _ (doc : List ℕ) {names qnames events names′ qnames′ events′ : List ℕ} {a : Answer} (x : length names ≡ 2048) (y : length qnames ≡ 3072) (z : length events ≡ 16384)
+module _ (doc : List ℕ) {names qnames events names′ qnames′ events′ : List ℕ} {a : Answer} (x : length names ≡ nameTable) (y : length qnames ≡ qnameTable) (z : length events ≡ eventTable)
     (h : Reads (reading doc (roomIn (length names) (length qnames) (length events))) names qnames events names′ qnames′ events′ a) where
   rooms : roomIn (length names) (length qnames) (length events) ≡ full
   rooms = rw (x, y, z) refl

@@ -5,6 +5,7 @@ use Prim.Native.Nat.{ℕ}
 use lib.ListN.{length-replicate}
 use Rattle.print_listing.proofs.Laws.{refused-room, counts-room}
 use Rattle.print_listing.proofs.Texts.{refusal-printed, pairs-few, pairs-printed}
+use Rattle.print_listing.specs.Room.{pairNumbers}
 use Rattle.print_listing.proofs.print.Statement.{statement}
 use Rattle.print_listing.proofs.print.Tie as tie
 
@@ -26,7 +27,7 @@ returns c =
 put-pairs-requires : tie.Need-put-pairs-requires
 put-pairs-requires c κs =
     let f = c .before .before .before .before .before .list-full .ensures in
-    let few = pairs-few f (c .before .before .if1 .left) (length-replicate {A = ℕ} 16384 0) in
+    let few = pairs-few f (c .before .before .if1 .left) (length-replicate {A = ℕ} pairNumbers 0) in
     (omega (arith, few), omega (arith, few, c .before .before .before .before .before .before .before .before .before .pre))
 
 put-line-requires-2 : tie.Need-put-line-requires-2
@@ -45,7 +46,7 @@ returns-2 c =
     let f = at-list-full .list-full .ensures in
     let p = at-put-pairs .put-pairs .ensures in
     let q = c .before .before .put-line2 .ensures in
-    (pairs-printed f (at-if1 .if1 .left) (length-replicate {A = ℕ} 16384 0) (p .0) q, omega (arith, p .0 .place, q .place, entry .pre))
+    (pairs-printed f (at-if1 .if1 .left) (length-replicate {A = ℕ} pairNumbers 0) (p .0) q, omega (arith, p .0 .place, q .place, entry .pre))
 
 pub print-spec : {M : Type 1} → statement M
 print-spec =

@@ -5,6 +5,7 @@ use Prim.Native.Nat.{ℕ}
 use lib.ListN.{length-replicate}
 use Rattle.filled.proofs.Filled.{names-long, qnames-long, events-long}
 use Rattle.print_reading.proofs.Texts.{rows-held, all-printed}
+use Rattle.machine.specs.Tables.{nameTable, qnameTable, eventTable}
 use Rattle.print_reading.proofs.print.Statement.{statement}
 use Rattle.print_reading.proofs.print.Tie as tie
 
@@ -13,7 +14,7 @@ put-rows-requires c κs =
     let at-read = c .before .before .before .before .before .before .before in
     let entry = at-read .before .before .before .before .before .before in
     let h = at-read .read .ensures in
-    let f = rows-held (entry .args .doc .now) (length-replicate {A = ℕ} 2048 0) (length-replicate {A = ℕ} 3072 0) (length-replicate {A = ℕ} 16384 0) h in
+    let f = rows-held (entry .args .doc .now) (length-replicate {A = ℕ} nameTable 0) (length-replicate {A = ℕ} qnameTable 0) (length-replicate {A = ℕ} eventTable 0) h in
     (entry .pre, f .0, f .1, f .2, names-long h, qnames-long h, events-long h)
 
 returns : tie.Need-returns
@@ -24,7 +25,7 @@ returns c =
     let x = at-before .before in
     let p = at-put-rows .put-rows .ensures in
     let q = c .before .before .put-answer .ensures in (
-      all-printed (x .args .doc .now) (length-replicate {A = ℕ} 2048 0) (length-replicate {A = ℕ} 3072 0) (length-replicate {A = ℕ} 16384 0) (at-read .read .ensures) (x .pre) (p .0) q,
+      all-printed (x .args .doc .now) (length-replicate {A = ℕ} nameTable 0) (length-replicate {A = ℕ} qnameTable 0) (length-replicate {A = ℕ} eventTable 0) (at-read .read .ensures) (x .pre) (p .0) q,
       omega (arith, p .0 .place, q .place),
     )
 
