@@ -55,7 +55,7 @@ pub fn moved(p: Progress, i: Cursor) -> Progress
     }
 }
 
-pub fn with_attribute(p: Progress, attribute: usize) -> Progress
+fn with_attribute(p: Progress, attribute: usize) -> Progress
     ensures { λ r. ⌜ r ≡ attributed p attribute ⌝ }
 {
     Progress {

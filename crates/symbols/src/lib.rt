@@ -76,7 +76,7 @@ pub fn put_units(src: &[u8], syms: &mut [u32], p: Cursor) -> Cursor
 }
 
 // A mark for each byte.
-pub fn put_bytes(src: &[u8], syms: &mut [u32], p: Cursor) -> Cursor
+fn put_bytes(src: &[u8], syms: &mut [u32], p: Cursor) -> Cursor
     requires { ⌜ p .at + length (now src) ≤ length (now syms) ⌝ }
     ensures { λ r. ⌜ PutHashed (now (syms .entry)) p (map (mark byteKind) (now (src .entry))) (now (syms .exit)) r ⌝ }
 {
@@ -98,7 +98,7 @@ pub fn put_bytes(src: &[u8], syms: &mut [u32], p: Cursor) -> Cursor
 // ---- values
 
 // A value without text: its mark, and a mark for each byte.
-pub fn put_value(token: u8, payload: &[u8], syms: &mut [u32], p: Cursor) -> Cursor
+fn put_value(token: u8, payload: &[u8], syms: &mut [u32], p: Cursor) -> Cursor
     requires { ⌜ p .at + 1 + length (now payload) ≤ length (now syms) ⌝ }
     ensures { λ r. ⌜ PutHashed (now (syms .entry)) p (mark tokenKind token ∷ map (mark byteKind) (now (payload .entry))) (now (syms .exit)) r ⌝ }
 {
@@ -111,7 +111,7 @@ pub fn put_value(token: u8, payload: &[u8], syms: &mut [u32], p: Cursor) -> Curs
 }
 
 // The units of a text that is made, one by one: n of them; small and from are as `load` leaves them.
-pub fn put_made(
+fn put_made(
     alphabet: &[u8; base64::LETTER_COUNT],
     plan: Plan,
     payload: &[u8],
@@ -141,7 +141,7 @@ pub fn put_made(
 }
 
 // A text that is made of a blob, unit by unit. The small buffer is that of a number's text and is not read.
-pub fn put_blob(
+fn put_blob(
     alphabet: &[u8; base64::LETTER_COUNT],
     plan: Plan,
     payload: &[u8],
@@ -168,7 +168,7 @@ pub fn put_blob(
 
 // The text of a number or of a truth value: made at the end of a small buffer and taken from there. The payload is named in
 // the contract only.
-pub fn put_small(plan: Plan, payload: &[u8], syms: &mut [u32], p: Cursor) -> Cursor
+fn put_small(plan: Plan, payload: &[u8], syms: &mut [u32], p: Cursor) -> Cursor
     requires { ⌜ (wayOf plan ≡ 2) × NumberFits plan × (p .at + length (unitsBy plan (now payload)) ≤ length (now syms)) ⌝ }
     ensures { λ r. ⌜ PutHashed (now (syms .entry)) p (unitsBy plan (now (payload .entry))) (now (syms .exit)) r ⌝ }
 {
@@ -177,7 +177,7 @@ pub fn put_small(plan: Plan, payload: &[u8], syms: &mut [u32], p: Cursor) -> Cur
     put_units(&small[from..], syms, p)
 }
 
-pub fn way_of(plan: Plan) -> u8
+fn way_of(plan: Plan) -> u8
     ensures { λ r. ⌜ r ≡ wayOf plan ⌝ }
 {
     match plan {
