@@ -18,7 +18,7 @@ use Rattle.machine.specs.Tables.{NamesInside}
 use Rattle.form.specs.Canonical.{withUnits, lengthOf}
 use Rattle.form_output.specs.Output.{Fits, Put}
 use Rattle.form_output.proofs.Laws.{shortest-few, put-byte, put-then, fits-first, fits-next}
-use Rattle.form_slots.specs.Slots.{slotsAfter, numberIn, Low}
+use Rattle.form_slots.specs.Slots.{slotsAfter, numberIn, Low, region, slotCount}
 use Rattle.form_names.specs.Naming.{bytesBefore}
 use Rattle.form_names.proofs.Names.{slots-low}
 use Rattle.form_slots.proofs.Slots.{low-more, number-low}
@@ -64,19 +64,22 @@ module _ (doc names slots : List ℕ) (rows base class start : ℕ) (t : NamesIn
   unfolding piBytes
   pi-is = refl
 
-  pub pi-asks : (out : List ℕ) (at : ℕ) → class ≤ rows → base + 1025 ≤ 9225 → at ≤ 900000000000
+  pub pi-asks : (out : List ℕ) (at : ℕ) → class ≤ rows → base + region ≤ slotCount → at ≤ 900000000000
       → Fits (length out) at (length (piBytes (tables doc names [] [] []) slots base class start))
-      → NamesInside doc names rows × (class ≤ rows) × (base + 1025 ≤ 9225) × Low 20000 slots × (at ≤ 1000000000000) × Fits (length out) at (length bytes)
+      → NamesInside doc names rows × (class ≤ rows) × (base + region ≤ slotCount) × Low 20000 slots × (at ≤ 1000000000000) × Fits (length out) at (length bytes)
   pi-asks out at l b near f = (t, l, b, low-more (omega arith) low, omega arith, fits-first bytes after (rw pi-is at f))
+
+  -- after its target is defined
+  pub pi-low : {s : List ℕ} → class ≤ rows → s ≡ slotsAfter slots base class → Low 20000 s
+  pi-low l i = let n = t .few in rw i (low-more (omega arith) (slots-low 15000 slots base class (omega arith) low))
 
   module _ {out m : List ℕ} {at p : ℕ} (x : Put out m at p bytes) (near : at ≤ 900000000000) where
     pub pi-near : p ≤ 900001000000
     pi-near = let f = bytes-few doc names slots base class in let e = x .past in let s = t .short in omega arith
 
-    pub pi-number : {s : List ℕ} {k : ℕ} → s ≡ slotsAfter slots base class → k ≡ numberIn s base class → (k ≤ 2147483647) × (p + 1 ≤ 1099511627776)
-    pi-number {s} {k} i j =
-        let l = number-low 15001 (slotsAfter slots base class) base class (slots-low 15000 slots base class low) in
-        let j′ : k ≡ number = j ∙ rw i in
+    pub pi-number : {s : List ℕ} {k : ℕ} → class ≤ rows → s ≡ slotsAfter slots base class → k ≡ numberIn s base class → (k ≤ 2147483647) × (p + 1 ≤ 1099511627776)
+    pi-number {s} {k} h i j =
+        let l = number-low 20000 s base class (pi-low h i) in
         let n = pi-near in
         (omega arith, omega arith)
 

@@ -12,7 +12,7 @@ use Rattle.form.specs.Canonical.{withUnits, lengthOf, headerOf}
 use Rattle.form_output.specs.Output.{Fits, Put}
 use Rattle.form_output.proofs.Laws.{fits-first}
 use Rattle.form_slots.specs.declared.Parts.{Parts}
-use Rattle.form_slots.specs.Slots.{slotsAfter, numberIn, partsAt, Low, PartsFit, Cleared}
+use Rattle.form_slots.specs.Slots.{slotsAfter, numberIn, partsAt, Low, PartsFit, Cleared, Trail, Trails, region, slotCount}
 use Rattle.form_names.specs.Naming.{qnameBefore, namesAfter}
 use Rattle.form_slots.proofs.Slots.{low-more}
 use Rattle.form_items.specs.declared.Spot.{Spot}
@@ -24,6 +24,15 @@ use Rattle.classes.specs.Search.{classAt}
 before-is : (row : ℕ) → 1 ≤ row → before row ≡ row - 1
 before-is zero h = absurd (let q : ⊥ = omega arith in q)
 before-is (suc k) h = omega arith
+
+-- the names of a row of qnames are rows of names
+pub parts-fit : {t : Tables} {rows qrows k : ℕ} → Ready t rows qrows → k < qrows → PartsFit rows (partsAt (t .qnames) (t .classes) k)
+parts-fit {k = k} ready h =
+    record {
+      uri-in = ready .class-low _ (ready .uri-in k h);
+      prefix-in = ready .class-low _ (ready .prefix-in k h);
+      local-in = ready .class-low _ (ready .local-in k h);
+    }
 
 -- a PI looks at the document and at the names alone
 pi-same : (t : Tables) (slots : List ℕ) (base class start : ℕ) → piBytes t slots base class start ≡ piBytes (tables (t .doc) (t .names) [] [] []) slots base class start
@@ -39,7 +48,7 @@ module _ (t : Tables) (rows qrows : ℕ) (slots qslots out : List ℕ) (w : Spot
   room-as : (x : Item) → item ≡ x → Fits (length out) (w .at) (length (bytesFor t slots qslots (baseAt (w .depth)) x))
   room-as x e = subst (λ (y : Item). Fits (length out) (w .at) (length (bytesFor t slots qslots (baseAt (w .depth)) y))) e room
 
-  base-room : baseAt (w .depth) + 1025 ≤ 9225
+  base-room : baseAt (w .depth) + region ≤ slotCount
   base-room = omega arith
 
   pub byte-asks : {value : ℕ} → item ≡ Byte value → value < 256
@@ -53,8 +62,8 @@ module _ (t : Tables) (rows qrows : ℕ) (slots qslots out : List ℕ) (w : Spot
   pub target-asks : {row start : ℕ} → item ≡ Pi row start → row ≤ 1024
   target-asks {row} {start} e = let l = fits-as (Pi row start) e .0 in let f = ready .texts .few in omega arith
 
-  pub pi-asks : {row start class base : ℕ} → item ≡ Pi row start → class ≡ classAt (t .classes) row → base ≡ 1025 * w .depth
-      → NamesInside (t .doc) (t .names) rows × (class ≤ rows) × (base + 1025 ≤ 9225) × Low 15000 slots × (w .at ≤ 900000000000) × TextThere (t .doc) start
+  pub pi-asks : {row start class base : ℕ} → item ≡ Pi row start → class ≡ classAt (t .classes) row → base ≡ region * w .depth
+      → NamesInside (t .doc) (t .names) rows × (class ≤ rows) × (base + region ≤ slotCount) × Low 15000 slots × (w .at ≤ 900000000000) × TextThere (t .doc) start
       × Fits (length out) (w .at) (length (piBytes (tables (t .doc) (t .names) [] [] []) slots base class start))
   pi-asks {row} {start} {class} {base} e c b =
       let f = fits-as (Pi row start) e in
@@ -84,7 +93,7 @@ module _ (t : Tables) (rows qrows : ℕ) (slots qslots out : List ℕ) (w : Spot
   row-from {token} {row} e = fits-as (Refer token row) e .1
 
   module _ {token row class base : ℕ} {q : Parts} (e : item ≡ Refer token row) (p : q ≡ partsAt (t .qnames) (t .classes) (row - 1)) (c : class ≡ classAt (t .qclasses) row)
-      (b : base ≡ 1025 * w .depth) where
+      (b : base ≡ region * w .depth) where
     from : 1 ≤ row
     from = row-from e
 
@@ -93,21 +102,16 @@ module _ (t : Tables) (rows qrows : ℕ) (slots qslots out : List ℕ) (w : Spot
     unfolding referBytes
     bytes-are = rw (before-is row from, p, c, b)
 
-    pub refer-asks : NamesInside (t .doc) (t .names) rows × PartsFit rows q × (1 ≤ class) × (class ≤ 1024) × (base + 1025 ≤ 9225) × Low 19000 slots × Low 19000 qslots
+    pub refer-asks : NamesInside (t .doc) (t .names) rows × PartsFit rows q × (1 ≤ class) × (class ≤ 1024) × (base + region ≤ slotCount) × Low 19000 slots × Low 19000 qslots
         × (w .at ≤ 900000000000) × Fits (length out) (w .at) (length (qnameBefore (t .doc) (t .names) slots qslots base q class))
     refer-asks =
         let f = fits-as (Refer token row) e in
         let n = f .2 in
         let m = from in
         let k : row - 1 < qrows = omega arith in
-        let r = subst (λ (l : List ℕ). Fits (length out) (w .at) (length l)) bytes-are (room-as (Refer token row) e) in
-        let fit : PartsFit rows q = rw p (record {
-          uri-in = ready .class-low _ (ready .uri-in (row - 1) k);
-          prefix-in = ready .class-low _ (ready .prefix-in (row - 1) k);
-          local-in = ready .class-low _ (ready .local-in (row - 1) k);
-        }) in (
+        let r = subst (λ (l : List ℕ). Fits (length out) (w .at) (length l)) bytes-are (room-as (Refer token row) e) in (
           ready .texts,
-          fit,
+          rw p (parts-fit ready k),
           rw c (ready .qclass-from row m n),
           rw c (ready .qclass-low row m n),
           rw b base-room,
@@ -134,13 +138,15 @@ module _ (t : Tables) (rows qrows : ℕ) (slots qslots out : List ℕ) (w : Spot
       let f = fits-as (Valued token place size) e in
       (f .1, ready .texts .short, omega arith, room-as (Valued token place size) e)
 
-  pub nest-asks : {version base : ℕ} → item ≡ Nest version → base ≡ 1025 * w .depth
-      → (version < 256) × (w .at ≤ 1000000000000) × ((base + 1025) + 1025 ≤ 9225) × (length slots ≡ 9225) × (length qslots ≡ 9225)
-  nest-asks {version} {base} e b =
+  pub nest-asks : {version base : ℕ} → Trails slots → Trails qslots → item ≡ Nest version → base ≡ region * w .depth
+      → (version < 256) × (w .at ≤ 1000000000000) × ((base + region) + region ≤ slotCount) × Low 20000 slots × Low 20000 qslots
+      × Trail slots (base + region) × Trail qslots (base + region)
+  nest-asks {version} {base} x y e b =
       let f = fits-as (Nest version) e in
       let v = f .0 in
       let d = f .1 in
-      (omega arith, omega arith, omega arith, low .long, qlow .long)
+      let i : region * suc (w .depth) ≡ base + region = omega arith in
+      (omega arith, omega arith, omega arith, low-more (omega arith) low, low-more (omega arith) qlow, rw i at (x (suc (w .depth)) (omega arith)), rw i at (y (suc (w .depth)) (omega arith)))
 
   -- ---- ways out
   pub wrote-byte : {value r : ℕ} {out′ : List ℕ} → item ≡ Byte value → Put out out′ (w .at) r (value ∷ []) → Wrote t slots qslots out slots qslots out′ w item r
@@ -150,7 +156,7 @@ module _ (t : Tables) (rows qrows : ℕ) (slots qslots out : List ℕ) (w : Spot
       → Wrote t slots qslots out slots qslots out′ w item r
   wrote-text e p = rw e (record { put = p; names-kept = refl; qnames-kept = refl })
 
-  pub wrote-pi : {row start class base r : ℕ} {out′ slots′ : List ℕ} → item ≡ Pi row start → class ≡ classAt (t .classes) row → base ≡ 1025 * w .depth
+  pub wrote-pi : {row start class base r : ℕ} {out′ slots′ : List ℕ} → item ≡ Pi row start → class ≡ classAt (t .classes) row → base ≡ region * w .depth
       → Put out out′ (w .at) r (piBytes (tables (t .doc) (t .names) [] [] []) slots base class start) → slots′ ≡ slotsAfter slots base class
       → Wrote t slots qslots out slots′ qslots out′ w item r
   wrote-pi {row} {start} {class} {base} {r} {out′} {slots′} e c b p s =
@@ -162,8 +168,8 @@ module _ (t : Tables) (rows qrows : ℕ) (slots qslots out : List ℕ) (w : Spot
       → Put out out′ (w .at) r (token ∷ (lengthOf (shapeOf token) (part (t .doc) place size) ++ part (t .doc) place size)) → Wrote t slots qslots out slots qslots out′ w item r
   wrote-value e p = rw e (record { put = p; names-kept = refl; qnames-kept = refl })
 
-  pub wrote-nest : {version base r : ℕ} {out′ slots′ qslots′ : List ℕ} → item ≡ Nest version → base ≡ 1025 * w .depth → Put out out′ (w .at) r (0xEC ∷ headerOf version)
-      → Cleared slots slots′ (base + 1025) → Cleared qslots qslots′ (base + 1025) → Wrote t slots qslots out slots′ qslots′ out′ w item r
+  pub wrote-nest : {version base r : ℕ} {out′ slots′ qslots′ : List ℕ} → item ≡ Nest version → base ≡ region * w .depth → Put out out′ (w .at) r (0xEC ∷ headerOf version)
+      → Cleared slots slots′ (base + region) → Cleared qslots qslots′ (base + region) → Wrote t slots qslots out slots′ qslots′ out′ w item r
   wrote-nest e b p x y = rw e (record { put = p; names-kept = rw b at x; qnames-kept = rw b at y })
 
   pub wrote-leave : {r : ℕ} {out′ : List ℕ} → item ≡ Leave → Put out out′ (w .at) r (0xEB ∷ []) → Wrote t slots qslots out slots qslots out′ w item r

@@ -9,7 +9,7 @@ ghost use Rattle.form_items.specs.Items.{itemBy, itemOf};
 ghost use Rattle.form_items.specs.Walk.{nestedAfter, tables, baseAt, bytesFor, Ready, ItemFits, piBytes, Wrote, TextThere};
 ghost use Rattle.form.specs.Canonical.{withUnits, lengthOf, headerOf};
 ghost use Rattle.form_output.specs.Output.{Fits, Put, farNames, farQnames, farItems};
-ghost use Rattle.form_slots.specs.Slots.{Low, slotsAfter, Cleared, slotCount, region, lowItems};
+ghost use Rattle.form_slots.specs.Slots.{Low, slotsAfter, Trail, Trails, Cleared, slotCount, region, lowNames, lowItems};
 ghost use mathlib.Core.List.{[], _∷_, _++_};
 ghost use Rattle.sequences.specs.Lists.{part};
 ghost use Rattle.token.specs.Tokens.{shapeOf, NEST-TOKEN, eventWidth, longest, eventRows, nestedDocuments};
@@ -174,7 +174,7 @@ fn put_pi(
     doc: &[u8],
     names: &[u32],
     out: &mut [u8],
-    slots: &mut [u32; form_slots::SLOTS],
+    slots: &mut [u16; form_slots::SLOTS],
     rows: usize,
     at: usize,
     base: usize,
@@ -202,13 +202,13 @@ fn put_pi(
 // A nested document begins: its header, and nothing defined.
 fn put_nest(
     out: &mut [u8],
-    slots: &mut [u32; form_slots::SLOTS],
-    qslots: &mut [u32; form_slots::SLOTS],
+    slots: &mut [u16; form_slots::SLOTS],
+    qslots: &mut [u16; form_slots::SLOTS],
     at: usize,
     base: usize,
     version: u8,
 ) -> usize
-    requires { ⌜ (at ≤ farNames) × (base + region ≤ slotCount) × (length (now slots) ≡ slotCount) × (length (now qslots) ≡ slotCount) ⌝ }
+    requires { ⌜ (at ≤ farNames) × (base + region ≤ slotCount) × Low lowNames (now slots) × Low lowNames (now qslots) × Trail (now slots) base × Trail (now qslots) base ⌝ }
     ensures { λ r. ⌜ Put (now (out .entry)) (now (out .exit)) at r (NEST-TOKEN ∷ headerOf version)
         × Cleared (now (slots .entry)) (now (slots .exit)) base × Cleared (now (qslots .entry)) (now (qslots .exit)) base ⌝ }
 {
@@ -227,8 +227,8 @@ pub fn write(
     classes: &[u32; token::NAME_ROWS],
     qclasses: &[u32; token::QNAME_ROWS],
     out: &mut [u8],
-    slots: &mut [u32; form_slots::SLOTS],
-    qslots: &mut [u32; form_slots::SLOTS],
+    slots: &mut [u16; form_slots::SLOTS],
+    qslots: &mut [u16; form_slots::SLOTS],
     rows: usize,
     qrows: usize,
     w: Spot,
@@ -237,7 +237,8 @@ pub fn write(
     requires { ⌜ Listed (now table) × Ready (tables (now doc) (now names) (now qnames) (now classes) (now qclasses)) rows qrows
         × ItemFits (tables (now doc) (now names) (now qnames) (now classes) (now qclasses)) rows qrows (w .depth) item
         × Low lowItems (now slots) × Low lowItems (now qslots) × (w .depth ≤ nestedDocuments) × (w .at ≤ farItems)
-        × Fits (length (now out)) (w .at) (length (bytesFor (tables (now doc) (now names) (now qnames) (now classes) (now qclasses)) (now slots) (now qslots) (baseAt (w .depth)) item)) ⌝ }
+        × Fits (length (now out)) (w .at) (length (bytesFor (tables (now doc) (now names) (now qnames) (now classes) (now qclasses)) (now slots) (now qslots) (baseAt (w .depth)) item))
+        × Trails (now slots) × Trails (now qslots) ⌝ }
     ensures { λ r. ⌜ Wrote (tables (now (doc .entry)) (now (names .entry)) (now (qnames .entry)) (now (classes .entry)) (now (qclasses .entry)))
         (now (slots .entry)) (now (qslots .entry)) (now (out .entry)) (now (slots .exit)) (now (qslots .exit)) (now (out .exit)) w item r ⌝ }
 {

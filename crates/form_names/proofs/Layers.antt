@@ -6,19 +6,19 @@ use mathlib.Core.List.{List, [], _∷_}
 use native.Mathlib.Omega.{arith}
 use lib.ListN.{length}
 use Rattle.form.specs.Canonical.{place, absent}
-use Rattle.form_slots.specs.Slots.{Cleared}
+use Rattle.form_slots.specs.Slots.{Cleared, region}
 use Rattle.form_names.proofs.Marks.{slotOf, Marks, Agree, marks-agree}
 
 module _ {A : Type 0} (same : A → A → Bool) (T : List A) where
   pub data Layers (slots : List ℕ) : List (List A) → Type 0 where
     bottom : Layers slots []
-    layer : {c : List A} {cs : List (List A)} → Marks same T c slots (1025 * length cs) → Layers slots cs → Layers slots (c ∷ cs)
+    layer : {c : List A} {cs : List (List A)} → Marks same T c slots (region * length cs) → Layers slots cs → Layers slots (c ∷ cs)
 
-  pub layers-agree : {slots slots′ : List ℕ} (few : length T ≤ 1024) (cs : List (List A)) → Agree (1025 * length cs) slots slots′ → Layers slots cs → Layers slots′ cs
+  pub layers-agree : {slots slots′ : List ℕ} (few : length T ≤ 1024) (cs : List (List A)) → Agree (region * length cs) slots slots′ → Layers slots cs → Layers slots′ cs
   layers-agree few [] g bottom = bottom
   layers-agree {slots} {slots′} few (c ∷ cs) g (layer m l) =
-      let less : Agree (1025 * length cs) slots slots′ = record { each = λ k h. g .each k (omega arith) } in
-      let room : 1025 * length cs + 1025 ≤ 1025 * suc (length cs) = omega arith in
+      let less : Agree (region * length cs) slots slots′ = record { each = λ k h. g .each k (omega arith) } in
+      let room : region * length cs + region ≤ region * suc (length cs) = omega arith in
       layer {cs = cs} (marks-agree same g few room m) (layers-agree few cs less l)
 
   -- a document that has defined nothing

@@ -13,7 +13,10 @@ use borrow.Author.Tests.{ltb-true, ltb-false, eqb-true, eqb-false, ne-eqb}
 use Rattle.sequences.proofs.Tests.{cond-if}
 use Rattle.form.specs.Canonical.{place, absent}
 use Rattle.form.proofs.Places.{Tells, present, place-absent, place-present, place-grows, place-at, place-last, place-other}
-use Rattle.form_slots.specs.Slots.{marked, Low}
+use Rattle.form_slots.specs.Slots.{marked, Low, region}
+use Rattle.form_slots.proofs.TrailLaws.{marked-count, marked-number, marked-other}
+use Rattle.token.specs.Tokens.{nameRows}
+use Rattle.machine.specs.Tables.{classCount}
 
 module _ {A : Type 0} (same : A → A → Bool) where
   -- the number of an element among those defined, or 0
@@ -75,37 +78,27 @@ module _ {A : Type 0} (same : A → A → Bool) where
         slot-defined (c ++ (a ∷ [])) a (omega arith) ∙ ap suc p
 
     -- an element that is not yet defined gets the next number
-    pub marks-more : (T c : List A) (slots : List ℕ) (base : ℕ) (a : A) → base + suc (place same T a) < length slots → place same T a < length T
+    pub marks-more : (T c : List A) (slots : List ℕ) (base : ℕ) (a : A) → base + region ≤ length slots → length T ≤ nameRows → place same T a < length T
         → absent same c a ≡ true → Marks T c slots base → Marks T (c ++ (a ∷ [])) (marked slots base (suc (place same T a))) base
-    unfolding marked
-    marks-more T c slots base a room h e m = record { count = counted; at = each }
+    marks-more T c slots base a room few h e m = record { count = counted; at = each }
       where
-        k : ℕ
-        k = getD slots base 0 + 1
-
-        one : List ℕ
-        one = set slots base k
-
-        counted : getD (set one (base + suc (place same T a)) k) base 0 ≡ length (c ++ (a ∷ []))
+        counted : getD (marked slots base (suc (place same T a))) base 0 ≡ length (c ++ (a ∷ []))
         counted =
-            getD-set-other one (base + suc (place same T a)) base k 0 (λ z. omega arith) ∙ getD-set-same slots base k 0 (omega arith)
-            ∙ (let i = m .count in rw length-append (omega arith))
+            marked-count slots base (suc (place same T a)) (omega arith) (omega arith) room ∙ (let i = m .count in rw length-append (omega arith))
 
-        each : (b : A) → place same T b < length T → getD (set one (base + suc (place same T a)) k) (base + suc (place same T b)) 0 ≡ slotOf (c ++ (a ∷ [])) b
+        each : (b : A) → place same T b < length T → getD (marked slots base (suc (place same T a))) (base + suc (place same T b)) 0 ≡ slotOf (c ++ (a ∷ [])) b
         each b l = go (eqb (place same T b) (place same T a)) refl
           where
             go : (t : Bool) → eqb (place same T b) (place same T a) ≡ t
-                → getD (set one (base + suc (place same T a)) k) (base + suc (place same T b)) 0 ≡ slotOf (c ++ (a ∷ [])) b
+                → getD (marked slots base (suc (place same T a))) (base + suc (place same T b)) 0 ≡ slotOf (c ++ (a ∷ [])) b
             go true i =
                 let p = eqb-true (place same T b) (place same T a) i in
                 let j : b ≡ a = same-row T a b h p in
-                let z : base + suc (place same T a) < length one = rw length-set room in
                 let n = m .count in
-                rw (j, getD-set-same one (base + suc (place same T a)) k 0 z, slot-last c a e) (omega arith)
+                rw (j, marked-number slots base (suc (place same T a)) (omega arith) (omega arith) room, slot-last c a e) (omega arith)
             go false i =
                 let p = eqb-false (place same T b) (place same T a) i in
-                getD-set-other one (base + suc (place same T a)) (base + suc (place same T b)) k 0 (λ z. p (omega arith))
-                ∙ getD-set-other slots base (base + suc (place same T b)) k 0 (λ z. omega arith)
+                marked-other slots base (suc (place same T a)) (base + suc (place same T b)) (λ z. omega arith) (λ z. p (omega arith)) (λ z. omega arith) (λ z. omega arith)
                 ∙ m .at b l ∙ sym (slot-other c a b (λ z. p (rw z)))
 
 -- ---- other regions
@@ -122,16 +115,11 @@ agree-then x y = record { each = λ k h. y .each k h ∙ x .each k h }
 
 -- marking changes nothing before the region
 pub marked-agree : (slots : List ℕ) (base class : ℕ) → Agree base slots (marked slots base class)
-unfolding marked
 marked-agree slots base class =
-    record {
-      each = λ k h.
-          getD-set-other (set slots base (getD slots base 0 + 1)) (base + class) k (getD slots base 0 + 1) 0 (λ z. omega arith)
-          ∙ getD-set-other slots base k (getD slots base 0 + 1) 0 (λ z. omega arith);
-    }
+    record { each = λ k h. marked-other slots base class k (λ z. omega arith) (λ z. omega arith) (λ z. omega arith) (λ z. omega arith) }
 
 pub marks-agree : {A : Type 0} (same : A → A → Bool) {T c : List A} {slots slots′ : List ℕ} {base n : ℕ} → Agree n slots slots′ → length T ≤ 1024
-    → base + 1025 ≤ n → Marks same T c slots base → Marks same T c slots′ base
+    → base + region ≤ n → Marks same T c slots base → Marks same T c slots′ base
 marks-agree same {T} g f h m =
     record {
       count = g .each _ (omega arith) ∙ m .count;
@@ -140,15 +128,15 @@ marks-agree same {T} g f h m =
 
 -- ---- bounds
 
-pub marked-low : (most : ℕ) (slots : List ℕ) (base class : ℕ) → Low most slots → Low (most + 1) (marked slots base class)
+pub marked-low : (most : ℕ) (slots : List ℕ) (base class : ℕ) → class ≤ most + 1 → Low most slots → Low (most + 1) (marked slots base class)
 unfolding marked
-marked-low most slots base class l = record { long = rw (length-set, length-set) (l .long); each = at }
+marked-low most slots base class small l = record { long = rw (length-set, length-set, length-set, length-set) (l .long); each = at }
   where
     k : ℕ
     k = getD slots base 0 + 1
 
-    put-low : (m : List ℕ) (i : ℕ) → ((j : ℕ) → getD m j 0 ≤ most + 1) → (j : ℕ) → getD (set m i k) j 0 ≤ most + 1
-    put-low m i h j = go (eqb j i) refl (leb-or (length m) i)
+    put-low : (m : List ℕ) (i v : ℕ) → v ≤ most + 1 → ((j : ℕ) → getD m j 0 ≤ most + 1) → (j : ℕ) → getD (set m i v) j 0 ≤ most + 1
+    put-low m i v g h j = go (eqb j i) refl (leb-or (length m) i)
       where
         leb-or : (a b : ℕ) → (a ≤ b) ⊎ (b < a)
         leb-or a b = dec (ltb b a) refl
@@ -157,13 +145,23 @@ marked-low most slots base class l = record { long = rw (length-set, length-set)
             dec true e = inr (ltb-true b a e)
             dec false e = inl (ltb-false b a e)
 
-        go : (t : Bool) → eqb j i ≡ t → (length m ≤ i) ⊎ (i < length m) → getD (set m i k) j 0 ≤ most + 1
-        go false e x = rw (getD-set-other m i j k 0 (eqb-false j i e)) (h j)
-        go true e (inl x) = rw (set-out m i k x) (h j)
-        go true e (inr x) =
-            let p = eqb-true j i e in
-            let b = l .each base in
-            rw (p, getD-set-same m i k 0 x) (omega arith)
+        go : (t : Bool) → eqb j i ≡ t → (length m ≤ i) ⊎ (i < length m) → getD (set m i v) j 0 ≤ most + 1
+        go false e x = rw (getD-set-other m i j v 0 (eqb-false j i e)) (h j)
+        go true e (inl x) = rw (set-out m i v x) (h j)
+        go true e (inr x) = rw (eqb-true j i e, getD-set-same m i v 0 x) g
 
-    at : (j : ℕ) → getD (set (set slots base k) (base + class) k) j 0 ≤ most + 1
-    at = put-low (set slots base k) (base + class) (put-low slots base (λ j. omega (arith, l .each j)))
+    k-low : k ≤ most + 1
+    k-low = let b = l .each base in omega arith
+
+    one : List ℕ
+    one = set slots base k
+
+    three : List ℕ
+    three = set (set one (base + class) k) (base + classCount) class
+
+    at : (j : ℕ) → getD (set three ((base + classCount) + class) (getD slots (base + classCount) 0)) j 0 ≤ most + 1
+    at =
+        let h = l .each (base + classCount) in
+        put-low three ((base + classCount) + class) (getD slots (base + classCount) 0) (omega arith)
+        (put-low (set one (base + class) k) (base + classCount) class small
+        (put-low one (base + class) k k-low (put-low slots base k k-low (λ j. omega (arith, l .each j)))))

@@ -1,22 +1,25 @@
 -- What the walk writes before an event, and what it keeps after it, is what the form says. Assumes nothing.
-use Prim.Native.Nat.{ℕ, suc, _+_, _≤_, _<_}
+use Prim.Native.Nat.{ℕ, zero, suc, _+_, _*_, _≤_, _<_}
 use mathlib.Core.Path.{_≡_, refl, sym, _∙_, ap}
 use mathlib.Core.Bool.{Bool, true, false, cond}
 use mathlib.Core.List.{List, [], _∷_, _++_}
 use native.Mathlib.Omega.{arith}
-use lib.ListN.{length, length-append, length-set}
+use lib.ListN.{length, getD, length-append, length-set}
+use borrow.Author.Tests.{eqb-true}
 use Rattle.sequences.specs.Lists.{same}
 use Rattle.form.specs.Canonical.{Triple, place, absent, fresh, numberOf, grownIf, grown, definition, withTexts, definitions, qnameBytes}
 use Rattle.form.proofs.Places.{Tells, tells-text, present, absent-place, place-grows, place-last}
 use Rattle.form_slots.specs.declared.Parts.{Parts}
 use Rattle.form_names.specs.Naming.{classText, bytesBefore, slots1, slots2, slots3, textsBefore, qnameNumbers, namesAfter}
-use Rattle.form_slots.specs.Slots.{isNew, marked, slotsAfter, numberIn, Low}
+use Rattle.form_slots.specs.Slots.{isNew, marked, slotsAfter, numberIn, Low, PartsFit, Trails, region, slotCount}
+use Rattle.form_slots.proofs.TrailLaws.{trails-marked}
+use Rattle.token.specs.Tokens.{nameRows, nestedDocuments}
 use Rattle.form_names.proofs.Marks.{Marks, slot-new, slot-defined, marks-more, Agree, agree-same, agree-then, marked-agree, marked-low}
 
 -- ---- any element
 
 module _ {A : Type 0} (same : A → A → Bool) (tells : Tells same) (T : List A) (few : length T ≤ 1024) {c : List A} {slots : List ℕ} {base : ℕ}
-    (m : Marks same T c slots base) (room : base + 1025 ≤ length slots) where
+    (m : Marks same T c slots base) (room : base + region ≤ length slots) where
   pub new-any : (a : A) → place same T a < length T → isNew slots base (suc (place same T a)) ≡ absent same c a
   new-any a h = rw (m .at a h) (slot-new same c a)
 
@@ -25,7 +28,7 @@ module _ {A : Type 0} (same : A → A → Bool) (tells : Tells same) (T : List A
   after-any a h = rw (new-any a h) (go (absent same c a) refl)
     where
       go : (t : Bool) → absent same c a ≡ t → Marks same T (cond t (c ++ (a ∷ [])) c) (cond t (marked slots base (suc (place same T a))) slots) base
-      go true e = marks-more same tells T c slots base a (omega arith) h e m
+      go true e = marks-more same tells T c slots base a room few h e m
       go false e = m
 
   pub number-any : (a : A) → place same T a < length T → place same c a < length c → numberIn slots base (suc (place same T a)) ≡ suc (place same c a)
@@ -60,15 +63,15 @@ unfolding slotsAfter marked
 slots-long slots base class = go (isNew slots base class)
   where
     go : (t : Bool) → length (cond t (marked slots base class) slots) ≡ length slots
-    go true = rw (length-set, length-set)
+    go true = rw (length-set, length-set, length-set, length-set)
     go false = refl
 
-pub slots-low : (most : ℕ) (slots : List ℕ) (base class : ℕ) → Low most slots → Low (most + 1) (slotsAfter slots base class)
+pub slots-low : (most : ℕ) (slots : List ℕ) (base class : ℕ) → class ≤ most + 1 → Low most slots → Low (most + 1) (slotsAfter slots base class)
 unfolding slotsAfter
-slots-low most slots base class l = go (isNew slots base class)
+slots-low most slots base class small l = go (isNew slots base class)
   where
     go : (t : Bool) → Low (most + 1) (cond t (marked slots base class) slots)
-    go true = marked-low most slots base class l
+    go true = marked-low most slots base class small l
     go false = record { long = l .long; each = λ k. let h = l .each k in omega arith }
 
 -- the same after the names of a qname
@@ -84,11 +87,14 @@ slots3-long slots base q =
     slots-long (slotsAfter (slotsAfter slots base (q .uri)) base (q .prefix)) base (q .local) ∙ slots-long (slotsAfter slots base (q .uri)) base (q .prefix)
     ∙ slots-long slots base (q .uri)
 
-pub slots3-low : (most : ℕ) (slots : List ℕ) (base : ℕ) (q : Parts) → Low most slots → Low (most + 3) (slots3 slots base q)
+pub slots3-low : (most : ℕ) (slots : List ℕ) (base : ℕ) (q : Parts) → PartsFit most q → Low most slots → Low (most + 3) (slots3 slots base q)
 unfolding slots1 slots2 slots3
-slots3-low most slots base q l =
+slots3-low most slots base q fit l =
     let z : ((most + 1) + 1) + 1 ≡ most + 3 = omega arith in
-    rw z at (slots-low ((most + 1) + 1) _ base (q .local) (slots-low (most + 1) _ base (q .prefix) (slots-low most slots base (q .uri) l)))
+    let u = fit .uri-in in
+    let v = fit .prefix-in in
+    let w = fit .local-in in
+    rw z at (slots-low ((most + 1) + 1) _ base (q .local) (omega arith) (slots-low (most + 1) _ base (q .prefix) (omega arith) (slots-low most slots base (q .uri) (omega arith) l)))
 
 pub names-agree : (slots qslots : List ℕ) (base : ℕ) (q : Parts) (class : ℕ) → Agree base slots (namesAfter slots qslots base q class)
 unfolding namesAfter
@@ -106,13 +112,44 @@ names-long slots qslots base q class = go (isNew qslots base class)
     go true = slots3-long slots base q
     go false = refl
 
-pub names-low : (most : ℕ) (slots qslots : List ℕ) (base : ℕ) (q : Parts) (class : ℕ) → Low most slots → Low (most + 3) (namesAfter slots qslots base q class)
+pub names-low : (most : ℕ) (slots qslots : List ℕ) (base : ℕ) (q : Parts) (class : ℕ) → PartsFit most q → Low most slots → Low (most + 3) (namesAfter slots qslots base q class)
 unfolding namesAfter
-names-low most slots qslots base q class l = go (isNew qslots base class)
+names-low most slots qslots base q class fit l = go (isNew qslots base class)
   where
     go : (t : Bool) → Low (most + 3) (cond t (slots3 slots base q) slots)
-    go true = slots3-low most slots base q l
+    go true = slots3-low most slots base q fit l
     go false = record { long = l .long; each = λ k. let h = l .each k in omega arith }
+
+-- ---- trails
+
+-- a class that has to be defined is none of the empty text, and has no number yet
+new-class : (slots : List ℕ) (base class : ℕ) → isNew slots base class ≡ true → (1 ≤ class) × (getD slots (base + class) 0 ≡ 0)
+new-class slots base zero e = absurd (let z : _≡_ {A = ℕ} 0 1 = cc in let q : ⊥ = omega arith in q)
+new-class slots base (suc k) e = (omega arith, eqb-true _ _ e)
+
+module _ (d : ℕ) (few : d ≤ nestedDocuments) where
+  pub slots-trails : (slots : List ℕ) (class : ℕ) → class ≤ nameRows → length slots ≡ slotCount → Trails slots → Trails (slotsAfter slots (region * d) class)
+  unfolding slotsAfter
+  slots-trails slots class small long x = go (isNew slots (region * d) class) refl
+    where
+      go : (t : Bool) → isNew slots (region * d) class ≡ t → Trails (cond t (marked slots (region * d) class) slots)
+      go true e = let n = new-class slots (region * d) class e in trails-marked x d class (n .0) small (omega (arith, long, few)) (n .1)
+      go false e = x
+
+  pub slots3-trails : (slots : List ℕ) (q : Parts) → PartsFit nameRows q → length slots ≡ slotCount → Trails slots → Trails (slots3 slots (region * d) q)
+  unfolding slots1 slots2 slots3
+  slots3-trails slots q fit long x =
+      let l = slots-long slots (region * d) (q .uri) ∙ long in
+      let m = slots-long (slotsAfter slots (region * d) (q .uri)) (region * d) (q .prefix) ∙ l in
+      slots-trails _ (q .local) (fit .local-in) m (slots-trails _ (q .prefix) (fit .prefix-in) l (slots-trails slots (q .uri) (fit .uri-in) long x))
+
+  pub names-trails : (slots qslots : List ℕ) (q : Parts) (class : ℕ) → PartsFit nameRows q → length slots ≡ slotCount → Trails slots → Trails (namesAfter slots qslots (region * d) q class)
+  unfolding namesAfter
+  names-trails slots qslots q class fit long x = go (isNew qslots (region * d) class)
+    where
+      go : (t : Bool) → Trails (cond t (slots3 slots (region * d) q) slots)
+      go true = slots3-trails slots q fit long x
+      go false = x
 
 -- ---- texts
 
@@ -151,7 +188,7 @@ module _ (doc names : List ℕ) (T : List (List ℕ)) where
     pub few : length T ≤ 1024
     pub text : (t : List ℕ) → place same T t < length T → classText doc names (suc (place same T t)) ≡ t
 
-  module _ (k : Classed) {c : List (List ℕ)} {slots : List ℕ} {base : ℕ} (m : Marks same T c slots base) (room : base + 1025 ≤ length slots) where
+  module _ (k : Classed) {c : List (List ℕ)} {slots : List ℕ} {base : ℕ} (m : Marks same T c slots base) (room : base + region ≤ length slots) where
     pub new-is : (t : List ℕ) → Has T t → isNew slots base (numberOf T t) ≡ fresh c t
     unfolding numberOf fresh
     new-is [] h = refl
@@ -185,16 +222,16 @@ module _ (doc names : List ℕ) (T : List (List ℕ)) where
     pub prefix : Has T (q .prefix)
     pub local : Has T (q .local)
 
-  module _ (k : Classed) {c : List (List ℕ)} {slots : List ℕ} {base : ℕ} (m : Marks same T c slots base) (low : length slots ≡ 9225) (room : base + 1025 ≤ 9225)
+  module _ (k : Classed) {c : List (List ℕ)} {slots : List ℕ} {base : ℕ} (m : Marks same T c slots base) (low : length slots ≡ slotCount) (room : base + region ≤ slotCount)
       (q : Triple) (h : Has3 q) where
-    room0 : base + 1025 ≤ length slots
+    room0 : base + region ≤ length slots
     room0 = omega arith
 
     m1 : Marks same T (grown c (q .uri)) (slots1 slots base (partsOf q)) base
     unfolding slots1
     m1 = slots-are k m room0 (q .uri) (h .uri)
 
-    long1 : base + 1025 ≤ length (slots1 slots base (partsOf q))
+    long1 : base + region ≤ length (slots1 slots base (partsOf q))
     unfolding slots1
     long1 = rw (slots-long slots base (numberOf T (q .uri))) room0
 
@@ -202,7 +239,7 @@ module _ (doc names : List ℕ) (T : List (List ℕ)) where
     unfolding slots2
     m2 = slots-are k m1 long1 (q .prefix) (h .prefix)
 
-    long2 : base + 1025 ≤ length (slots2 slots base (partsOf q))
+    long2 : base + region ≤ length (slots2 slots base (partsOf q))
     unfolding slots2
     long2 = rw (slots-long (slots1 slots base (partsOf q)) base (numberOf T (q .prefix))) long1
 
@@ -210,7 +247,7 @@ module _ (doc names : List ℕ) (T : List (List ℕ)) where
     unfolding slots3 withTexts
     slots3-are = slots-are k m2 long2 (q .local) (h .local)
 
-    long3 : base + 1025 ≤ length (slots3 slots base (partsOf q))
+    long3 : base + region ≤ length (slots3 slots base (partsOf q))
     unfolding slots3
     long3 = rw (slots-long (slots2 slots base (partsOf q)) base (numberOf T (q .local))) long2
 

@@ -8,16 +8,16 @@ use lib.ListN.{length}
 use Rattle.sequences.specs.Lists.{same}
 use Rattle.form.specs.Canonical.{Triple, sameTriple, place, absent, qnumberOf, grownIf, defined, withTexts, qnameDefinition, withQname}
 use Rattle.form.proofs.Places.{tells-triple}
-use Rattle.form_slots.specs.Slots.{isNew, slotsAfter, numberIn}
+use Rattle.form_slots.specs.Slots.{isNew, slotsAfter, numberIn, region, slotCount}
 use Rattle.form_names.specs.Naming.{slots3, qnameBefore, namesAfter}
 use Rattle.form_names.proofs.Marks.{Marks}
 use Rattle.form_names.proofs.Names.{Classed, partsOf, Has3, new-any, after-any, number-any, grown-any, slots-long, slots3-are, texts-are, numbers-are}
 
 -- `T` are the texts of the rows of names, `QT` the three texts of each row of qnames
 module _ (doc names : List ℕ) (T : List (List ℕ)) (QT : List Triple) (k : Classed doc names T) (few : length QT ≤ 1024) {c : List (List ℕ)} {qs : List Triple}
-    {slots qslots : List ℕ} {base : ℕ} (m : Marks same T c slots base) (mq : Marks sameTriple QT qs qslots base) (long : length slots ≡ 9225)
-    (qlong : length qslots ≡ 9225) (room : base + 1025 ≤ 9225) (q : Triple) (h : Has3 doc names T q) (row : place sameTriple QT q < length QT) where
-  qroom : base + 1025 ≤ length qslots
+    {slots qslots : List ℕ} {base : ℕ} (m : Marks same T c slots base) (mq : Marks sameTriple QT qs qslots base) (long : length slots ≡ slotCount)
+    (qlong : length qslots ≡ slotCount) (room : base + region ≤ slotCount) (q : Triple) (h : Has3 doc names T q) (row : place sameTriple QT q < length QT) where
+  qroom : base + region ≤ length qslots
   qroom = omega arith
 
   new-qname : isNew qslots base (qnumberOf QT q) ≡ absent sameTriple qs q
@@ -49,5 +49,5 @@ module _ (doc names : List ℕ) (T : List (List ℕ)) (QT : List Triple) (k : Cl
   unfolding qnumberOf
   qnumber-is =
       let g = grown-any sameTriple tells-triple qs q in
-      let l : base + 1025 ≤ length (slotsAfter qslots base (suc (place sameTriple QT q))) = rw (slots-long qslots base (suc (place sameTriple QT q))) qroom in
+      let l : base + region ≤ length (slotsAfter qslots base (suc (place sameTriple QT q))) = rw (slots-long qslots base (suc (place sameTriple QT q))) qroom in
       number-any sameTriple tells-triple QT few (after-any sameTriple tells-triple QT few mq qroom q row) l q row (g .0) ∙ ap suc (g .1)

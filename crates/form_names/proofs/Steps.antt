@@ -13,11 +13,11 @@ use Rattle.form.specs.Canonical.{withUnits}
 use Rattle.form_output.specs.Output.{Fits, Put}
 use Rattle.form_output.proofs.Laws.{shortest-few, put-none, put-byte, put-then, fits-first, fits-next}
 use Rattle.form_slots.specs.declared.Parts.{Parts}
-use Rattle.form_slots.specs.Slots.{isNew, marked, slotsAfter, numberIn, Low, PartsFit}
+use Rattle.form_slots.specs.Slots.{isNew, marked, slotsAfter, numberIn, Low, PartsFit, region, slotCount}
 use Rattle.form_names.specs.Naming.{classText, bytesBefore, slots1, slots2, slots3, textsBefore, qnameNumbers, qnameBefore, namesAfter}
 use Rattle.form_names.proofs.Names.{slots-low, slots3-low}
-use Rattle.form_slots.proofs.Slots.{low-more, number-low}
-use Rattle.token.specs.Tokens.{qnameWidth}
+use Rattle.form_slots.proofs.Slots.{low-more, parts-more, number-low}
+use Rattle.token.specs.Tokens.{qnameWidth, nameRows}
 
 part-few : (doc : List ℕ) (place size : ℕ) → length (part doc place size) ≤ length doc
 part-few doc place size = rw (length-take, length-drop) (omega arith)
@@ -93,11 +93,11 @@ module _ (doc names slots : List ℕ) (base class : ℕ) where
 
 -- ---- the texts of a qname
 
-module _ (doc names : List ℕ) (rows base : ℕ) (q : Parts) (t : NamesInside doc names rows) (fit : PartsFit rows q) (b : base + 1025 ≤ 9225) where
+module _ (doc names : List ℕ) (rows base : ℕ) (q : Parts) (t : NamesInside doc names rows) (fit : PartsFit rows q) (b : base + region ≤ slotCount) where
   -- what the definition of a class asks
   abbrev pub Asks : List ℕ → List ℕ → ℕ → ℕ → Type 0
   Asks slots out at class =
-      NamesInside doc names rows × (class ≤ rows) × (base + 1025 ≤ 9225) × Low 20000 slots × (at ≤ 1000000000000) × Fits (length out) at (length (bytesBefore doc names slots base class))
+      NamesInside doc names rows × (class ≤ rows) × (base + region ≤ slotCount) × Low 20000 slots × (at ≤ 1000000000000) × Fits (length out) at (length (bytesBefore doc names slots base class))
 
   module _ (slots out : List ℕ) (at : ℕ) where
     abbrev bytes1 : List ℕ
@@ -118,11 +118,11 @@ module _ (doc names : List ℕ) (rows base : ℕ) (q : Parts) (t : NamesInside d
 
     low1 : Low 19000 slots → Low 19001 (slots1 slots base q)
     unfolding slots1
-    low1 low = slots-low 19000 slots base (q .uri) low
+    low1 low = let u = fit .uri-in in let n = t .few in slots-low 19000 slots base (q .uri) (omega arith) low
 
     low2 : Low 19000 slots → Low 19002 (slots2 slots base q)
     unfolding slots2
-    low2 low = slots-low 19001 (slots1 slots base q) base (q .prefix) (low1 low)
+    low2 low = let v = fit .prefix-in in let n = t .few in slots-low 19001 (slots1 slots base q) base (q .prefix) (omega arith) (low1 low)
 
     pub prefix-asks : (s m : List ℕ) (x : ℕ) → Low 19000 slots → at ≤ 900000000000 → Fits (length out) at (length (textsBefore doc names slots base q))
         → Put out m at x bytes1 → s ≡ slotsAfter slots base (q .uri) → Asks s m x (q .prefix)
@@ -239,18 +239,15 @@ pub number-past : (value : ℕ) {b m : List ℕ} {at r n : ℕ} → Put b m at r
 number-past value p h = let f = shortest-few value in let e = p .past in omega arith
 
 -- before the definition of a qname, by the numbers of its texts
-pub numbers-asks : (doc names slots : List ℕ) (rows base : ℕ) (q : Parts) {b m : List ℕ} {at p : ℕ} {s : List ℕ} → NamesInside doc names rows → PartsFit rows q → base + 1025 ≤ 9225
+pub numbers-asks : (doc names slots : List ℕ) (rows base : ℕ) (q : Parts) {b m : List ℕ} {at p : ℕ} {s : List ℕ} → NamesInside doc names rows → PartsFit rows q → base + region ≤ slotCount
     → Low 19000 slots → at ≤ 900000000000 → Put b m at p (textsBefore doc names slots base q) → s ≡ slots3 slots base q
-    → PartsFit 1024 q × (base + 1025 ≤ 9225) × Low 20000 s × (p ≤ 1000000000000)
+    → PartsFit 1024 q × (base + region ≤ slotCount) × Low 20000 s × (p ≤ 1000000000000)
 numbers-asks doc names slots rows base q t fit b low near p e =
     let few = texts-few doc names slots base q in
     let past = p .past in
     let short = t .short in
     let rows-few = t .few in
-    let u = fit .uri-in in
-    let v = fit .prefix-in in
-    let w = fit .local-in in
-    (record { uri-in = omega arith; prefix-in = omega arith; local-in = omega arith }, b, rw e (low-more (omega arith) (slots3-low 19000 slots base q low)), omega arith)
+    (parts-more rows-few fit, b, rw e (low-more (omega arith) (slots3-low 19000 slots base q (parts-more (omega arith) fit) low)), omega arith)
 
 -- after a qname was needed
 pub refer-near : (doc names slots qslots : List ℕ) (base : ℕ) (q : Parts) (class : ℕ) {b m : List ℕ} {at p : ℕ} → length doc ≤ 65536 → at ≤ 900000000000
@@ -260,5 +257,5 @@ refer-near doc names slots qslots base q class short near p =
     let past = p .past in
     omega arith
 
-pub after-low : (qslots qs : List ℕ) (base class : ℕ) → Low 19000 qslots → qs ≡ slotsAfter qslots base class → Low 20000 qs
-after-low qslots qs base class low e = rw e (low-more (omega arith) (slots-low 19000 qslots base class low))
+pub after-low : (qslots qs : List ℕ) (base class : ℕ) → class ≤ nameRows → Low 19000 qslots → qs ≡ slotsAfter qslots base class → Low 20000 qs
+after-low qslots qs base class small low e = rw e (low-more (omega arith) (slots-low 19000 qslots base class (omega arith) low))

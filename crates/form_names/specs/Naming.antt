@@ -1,6 +1,6 @@
 -- Serves the code. Names and qnames that the form has defined so far, as the walk keeps them: for each open document a region
--- of 1,025 numbers, at its base how many are defined, then for each class its number in that document, or 0. What each step
--- makes of them.
+-- of numbers, at its base how many are defined, then for each class its number in that document, or 0. What each step makes of
+-- them.
 use Prim.Native.Nat.{ℕ, _+_, _-_, _*_}
 use mathlib.Core.Bool.{cond}
 use mathlib.Core.List.{List, [], _∷_, _++_}

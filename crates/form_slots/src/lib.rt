@@ -2,11 +2,14 @@
 ghost use mathlib.Core.Path.{_≡_};
 ghost use Prim.Native.Nat.{_+_, _*_, _≤_, _<_};
 ghost use lib.ListN.{length, getD};
-ghost use Rattle.form_slots.specs.Slots.{marked, numberIn, partsAt, Low, Cleared, slotCount, region, lowNames};
+ghost use Rattle.form_slots.specs.Slots.{marked, numberIn, partsAt, Low, Trail, Cleared, slotCount, region, lowNames};
 ghost use Rattle.token.specs.Tokens.{qnameWidth, nameRows, qnameRows};
 
-// The numbers of one document: how many classes are defined, and the number of each.
-pub const REGION: usize = token::NAME_ROWS + 1;
+// How many classes are defined, and the number of each.
+pub const CLASSES: usize = token::NAME_ROWS + 1;
+
+// The numbers of one document, and its trail: the class defined last, and behind it for each class the one defined before it.
+pub const REGION: usize = 2 * CLASSES;
 
 // A region for the outer document and for each nested one.
 pub const SLOTS: usize = REGION * (token::NESTED_DOCUMENTS + 1);
@@ -37,34 +40,40 @@ pub fn parts_at(qnames: &[u32], classes: &[u32; token::NAME_ROWS], k: usize) -> 
 }
 
 // The number of a class in the document whose region begins at `base`; 0 where it is not defined.
-pub fn number_in(slots: &[u32; SLOTS], base: usize, class: usize) -> usize
-    requires { ⌜ (base + class < slotCount) × (length (now slots) ≡ slotCount) ⌝ }
+pub fn number_in(slots: &[u16; SLOTS], base: usize, class: usize) -> usize
+    requires { ⌜ (base + class < slotCount) × Low lowNames (now slots) ⌝ }
     ensures { λ r. ⌜ r ≡ numberIn (now (slots .entry)) base class ⌝ }
 {
     if class == 0 {
         return 0;
     }
-    slices::cell(slots, base + class)
+    slots[base + class] as usize
 }
 
-// Gives a class the next number.
-pub fn mark(slots: &mut [u32; SLOTS], base: usize, class: usize)
-    requires { ⌜ (base + class < slotCount) × Low lowNames (now slots) ⌝ }
+// Gives a class the next number, and puts it on the trail.
+pub fn mark(slots: &mut [u16; SLOTS], base: usize, class: usize)
+    requires { ⌜ (class ≤ nameRows) × (base + region ≤ slotCount) × Low lowNames (now slots) ⌝ }
     ensures { λ _. ⌜ now (slots .exit) ≡ marked (now (slots .entry)) base class ⌝ }
 {
     let count = slots[base] + 1;
+    let last = slots[base + CLASSES];
     slots[base] = count;
     slots[base + class] = count;
+    slots[base + CLASSES] = class as u16;
+    slots[base + CLASSES + class] = last;
 }
 
-// A nested document begins with nothing defined.
-pub fn clear(slots: &mut [u32; SLOTS], base: usize)
-    requires { ⌜ (base + region ≤ slotCount) × (length (now slots) ≡ slotCount) ⌝ }
+// A nested document begins with nothing defined: follows the trail, so that only what was defined costs work.
+pub fn clear(slots: &mut [u16; SLOTS], base: usize)
+    requires { ⌜ (base + region ≤ slotCount) × Low lowNames (now slots) × Trail (now slots) base ⌝ }
     ensures { λ _. ⌜ Cleared (now (slots .entry)) (now (slots .exit)) base ⌝ }
 {
-    let mut i: usize = 0;
-    while i < REGION {
-        slots[base + i] = 0;
-        i += 1;
+    let mut left = slots[base];
+    let mut class = slots[base + CLASSES] as usize;
+    while 0 < left {
+        slots[base + class] = 0;
+        class = slots[base + CLASSES + class] as usize;
+        left -= 1;
     }
+    slots[base] = 0;
 }

@@ -1,5 +1,5 @@
 -- The walk before each row of events: what is still to be written completes the form. Assumes nothing.
-use Prim.Native.Nat.{ℕ, suc, _+_, _-_, _*_, _/_, _≤_, _<_}
+use Prim.Native.Nat.{ℕ, zero, suc, _+_, _-_, _*_, _/_, _≤_, _<_}
 use mathlib.Core.Path.{_≡_, refl, sym, _∙_, ap, subst}
 use mathlib.Core.Logic.{_⊎_, inl, inr}
 use mathlib.Core.Bool.{Bool, true, false}
@@ -11,7 +11,7 @@ use lib.ListN.{length, getD, drop, length-append, length-take, length-drop, drop
 use lib.Seq.{sets}
 use Rattle.sequences.specs.Lists.{part}
 use Rattle.sequences.proofs.Overlay.{sets-append}
-use Rattle.token.specs.Tokens.{shapeOf}
+use Rattle.token.specs.Tokens.{shapeOf, nameRows, nestedDocuments}
 use Rattle.token.specs.declared.Shape.{Shape}
 use Rattle.token.specs.declared.Shape.the-variants.{Nothing, Fixed, Text, Blob, CodePage, Decimal, Qname, Stamp, Date, Time, ZonedTime}
 use borrow.Author.Tests.{ltb-true, ltb-false, leb-true, leb-false}
@@ -20,18 +20,21 @@ use Rattle.value.specs.declared.Text as texts
 use Rattle.value.specs.declared.Text.the-variants as text
 use Rattle.machine.specs.Machine.{NameRow, QnameRow, EventRow, Event, dataIn, eventOf}
 use Rattle.machine.specs.Balance.{Opened, check}
+use Rattle.machine.specs.Tables.{classCount}
 use Rattle.form.specs.Canonical.{Scopes, emit, scopesAfter, body, headerOf, lengthOf, withUnits}
 use Rattle.form_output.specs.Output.{Fits, Put}
 use Rattle.form_output.proofs.Laws.{shortest-few, put-length}
-use Rattle.form_slots.specs.Slots.{slotsAfter, numberIn, partsAt, Low, Cleared}
-use Rattle.form_names.proofs.Names.{slots-low, names-low}
-use Rattle.form_slots.proofs.Slots.{low-more}
+use Rattle.form_slots.specs.Slots.{slotsAfter, numberIn, partsAt, Low, PartsFit, Cleared, Trails, region}
+use Rattle.form_slots.proofs.TrailLaws.{trails-cleared}
+use Rattle.form_names.proofs.Names.{slots-low, names-low, slots-trails, names-trails}
+use Rattle.form_slots.proofs.Slots.{low-more, parts-more}
 use Rattle.form_names.proofs.Steps.{bytes-few, counted-few, qname-few}
 use Rattle.form_items.specs.declared.Spot.{Spot}
 use Rattle.form_items.specs.declared.Item.{Item}
 use Rattle.form_items.specs.declared.Item.the-variants.{Byte, Texted, Pi, Refer, Valued, Nest, Leave}
 use Rattle.form_items.specs.Items.{itemOf}
-use Rattle.form_items.specs.Walk.{Tables, before, piBytes, referBytes, bytesFor, NamesKept, QnamesKept, nestedAfter, Turned, ItemFits}
+use Rattle.form_items.specs.Walk.{Tables, before, piBytes, referBytes, bytesFor, NamesKept, QnamesKept, nestedAfter, Turned, Ready, ItemFits}
+use Rattle.form_items.proofs.Writes.{parts-fit}
 use Rattle.classes.specs.Search.{classAt}
 use Rattle.rewriter.proofs.ItemLaws as items
 use Rattle.rewriter.proofs.ItemLaws.{Meets}
@@ -85,32 +88,72 @@ item-few t slots qslots base Leave h = omega arith
 cleared-low : {most : ℕ} {slots slots′ : List ℕ} {base : ℕ} → Cleared slots slots′ base → Low most slots → Low most slots′
 cleared-low {most} {slots} {slots′} {base} x l = record { long = x .long ∙ l .long; each = λ k. at k (leb base k) refl }
   where
-    past : (k : ℕ) → base ≤ k → (t : Bool) → ltb k (base + 1025) ≡ t → getD slots′ k 0 ≤ most
+    past : (k : ℕ) → base ≤ k → (t : Bool) → ltb k (base + classCount) ≡ t → getD slots′ k 0 ≤ most
     past k h true e = rw (x .inside k h (ltb-true _ _ e)) (omega arith)
     past k h false e = rw (x .over k (ltb-false _ _ e)) (l .each k)
 
     at : (k : ℕ) → (t : Bool) → leb base k ≡ t → getD slots′ k 0 ≤ most
-    at k true e = past k (leb-true _ _ e) (ltb k (base + 1025)) refl
+    at k true e = past k (leb-true _ _ e) (ltb k (base + classCount)) refl
     at k false e = rw (x .under k (leb-false _ _ e)) (l .each k)
 
-names-lower : (most : ℕ) (t : Tables) (slots qslots slots′ : List ℕ) (base : ℕ) (item : Item) → NamesKept t slots qslots base item slots′ → Low most slots → Low (most + 3) slots′
-names-lower most t slots qslots slots′ base (Byte value) e l = rw e (low-more (omega arith) l)
-names-lower most t slots qslots slots′ base (Texted token place units) e l = rw e (low-more (omega arith) l)
-names-lower most t slots qslots slots′ base (Pi row start) e l = rw e (low-more (omega arith) (slots-low most slots base (classAt (t .classes) row) l))
-names-lower most t slots qslots slots′ base (Refer token row) e l =
-    rw e (names-low most slots qslots base (partsAt (t .qnames) (t .classes) (before row)) (classAt (t .qclasses) row) l)
-names-lower most t slots qslots slots′ base (Valued token place size) e l = rw e (low-more (omega arith) l)
-names-lower most t slots qslots slots′ base (Nest version) e l = low-more (omega arith) (cleared-low e l)
-names-lower most t slots qslots slots′ base Leave e l = rw e (low-more (omega arith) l)
+-- ---- what the slots keep: numbers that are low, and trails
 
-qnames-lower : (most : ℕ) (t : Tables) (qslots qslots′ : List ℕ) (base : ℕ) (item : Item) → QnamesKept t qslots base item qslots′ → Low most qslots → Low (most + 3) qslots′
-qnames-lower most t qslots qslots′ base (Byte value) e l = rw e (low-more (omega arith) l)
-qnames-lower most t qslots qslots′ base (Texted token place units) e l = rw e (low-more (omega arith) l)
-qnames-lower most t qslots qslots′ base (Pi row start) e l = rw e (low-more (omega arith) l)
-qnames-lower most t qslots qslots′ base (Refer token row) e l = rw e (low-more (omega arith) (slots-low most qslots base (classAt (t .qclasses) row) l))
-qnames-lower most t qslots qslots′ base (Valued token place size) e l = rw e (low-more (omega arith) l)
-qnames-lower most t qslots qslots′ base (Nest version) e l = low-more (omega arith) (cleared-low e l)
-qnames-lower most t qslots qslots′ base Leave e l = rw e (low-more (omega arith) l)
+pub record Held (most : ℕ) (slots : List ℕ) : Type 0 where
+  pub low : Low most slots
+  pub trails : Trails slots
+
+held-more : {m n : ℕ} {slots : List ℕ} → m ≤ n → Held m slots → Held n slots
+held-more h x = record { low = low-more h (x .low); trails = x .trails }
+
+-- `most` is no less than a class
+module _ (t : Tables) (rows qrows : ℕ) (ready : Ready t rows qrows) (depth : ℕ) (shallow : depth ≤ nestedDocuments) (most : ℕ) (wide : nameRows ≤ most) where
+  -- the names of a reference's qname are classes
+  parts-few : (row : ℕ) → 1 ≤ row → row ≤ qrows → PartsFit nameRows (partsAt (t .qnames) (t .classes) (before row))
+  parts-few zero a b = absurd (let q : ⊥ = omega arith in q)
+  parts-few (suc k) a b = parts-more (ready .texts .few) (parts-fit ready b)
+
+  class-held : {slots : List ℕ} (class : ℕ) → class ≤ nameRows → Held most slots → Held (most + 3) (slotsAfter slots (region * depth) class)
+  class-held {slots} class small x =
+      record {
+        low = low-more (omega arith) (slots-low most slots (region * depth) class (omega arith) (x .low));
+        trails = slots-trails depth shallow slots class small (x .low .long) (x .trails);
+      }
+
+  cleared-held : {slots slots′ : List ℕ} → Cleared slots slots′ (region * depth + region) → Held most slots → Held (most + 3) slots′
+  cleared-held {slots} {slots′} e x =
+      let i : region * depth + region ≡ region * suc depth = omega arith in
+      let e′ : Cleared slots slots′ (region * suc depth) = rw i at e in
+      record { low = low-more (omega arith) (cleared-low e (x .low)); trails = trails-cleared (x .trails) (suc depth) e′ }
+
+  names-held : (slots qslots slots′ : List ℕ) (item : Item) → ItemFits t rows qrows depth item → NamesKept t slots qslots (region * depth) item slots′
+      → Held most slots → Held (most + 3) slots′
+  names-held slots qslots slots′ (Byte value) f e x = rw e (held-more (omega arith) x)
+  names-held slots qslots slots′ (Texted token place units) f e x = rw e (held-more (omega arith) x)
+  names-held slots qslots slots′ (Pi row start) f e x =
+      let a = ready .class-low row (f .0) in
+      let b = ready .texts .few in
+      rw e (class-held (classAt (t .classes) row) (omega arith) x)
+  names-held slots qslots slots′ (Refer token row) f e x =
+      let fit = parts-few row (f .1) (f .2) in
+      let q = partsAt (t .qnames) (t .classes) (before row) in
+      let class = classAt (t .qclasses) row in
+      rw e (record {
+        low = names-low most slots qslots (region * depth) q class (parts-more wide fit) (x .low);
+        trails = names-trails depth shallow slots qslots q class fit (x .low .long) (x .trails);
+      })
+  names-held slots qslots slots′ (Valued token place size) f e x = rw e (held-more (omega arith) x)
+  names-held slots qslots slots′ (Nest version) f e x = cleared-held e x
+  names-held slots qslots slots′ Leave f e x = rw e (held-more (omega arith) x)
+
+  qnames-held : (qslots qslots′ : List ℕ) (item : Item) → ItemFits t rows qrows depth item → QnamesKept t qslots (region * depth) item qslots′
+      → Held most qslots → Held (most + 3) qslots′
+  qnames-held qslots qslots′ (Byte value) f e x = rw e (held-more (omega arith) x)
+  qnames-held qslots qslots′ (Texted token place units) f e x = rw e (held-more (omega arith) x)
+  qnames-held qslots qslots′ (Pi row start) f e x = rw e (held-more (omega arith) x)
+  qnames-held qslots qslots′ (Refer token row) f e x = rw e (class-held (classAt (t .qclasses) row) (ready .qclass-low row (f .1) (f .2)) x)
+  qnames-held qslots qslots′ (Valued token place size) f e x = rw e (held-more (omega arith) x)
+  qnames-held qslots qslots′ (Nest version) f e x = cleared-held e x
+  qnames-held qslots qslots′ Leave f e x = rw e (held-more (omega arith) x)
 
 -- ---- documents open
 
@@ -161,8 +204,8 @@ module _ (t : Tables) (N : List NameRow) (Q : List QnameRow) (E : List EventRow)
     pub balanced : check o (drop i E) ≡ some fin
     pub docs-are : docs o ≡ suc (w .depth)
     pub shallow : w .depth ≤ 8
-    pub low : Low (3 * i) slots
-    pub qlow : Low (3 * i) qslots
+    pub held : Held (nameRows + 3 * i) slots
+    pub qheld : Held (nameRows + 3 * i) qslots
     pub near : w .at ≤ 5 + i * 400000
     pub far : 5 ≤ w .at
     pub within : i ≤ length E
@@ -189,13 +232,13 @@ module _ (t : Tables) (rows qrows : ℕ) (N : List NameRow) (Q : List QnameRow) 
     come-is = rw at-i
 
     -- the bytes of the item, however the slots stand afterwards
-    bytes-are : bytesFor t slots qslots (1025 * w .depth) (itemOf e) ≡ emit (x .s .here) (ev e)
+    bytes-are : bytesFor t slots qslots (region * w .depth) (itemOf e) ≡ emit (x .s .here) (ev e)
     bytes-are = bytes-of t N Q said slots qslots (x .s) (w .depth) (x .kept) (x .shallow) m
 
     pub fits-here : ItemFits t rows qrows (w .depth) (itemOf e)
     fits-here = item-fits t rows qrows (docs (x .o)) (docs (n .after)) (w .depth) named qnamed m (n .deeper) (x .docs-are)
 
-    pub room-here : Fits (length out) (w .at) (length (bytesFor t slots qslots (1025 * w .depth) (itemOf e)))
+    pub room-here : Fits (length out) (w .at) (length (bytesFor t slots qslots (region * w .depth) (itemOf e)))
     room-here = rw bytes-are (go (x .either))
       where
         go : (length first ≤ 5) ⊎ (total ≤ length first) → Fits (length out) (w .at) (length (emit (x .s .here) (ev e)))
@@ -208,21 +251,21 @@ module _ (t : Tables) (rows qrows : ℕ) (N : List NameRow) (Q : List QnameRow) 
     up : itemOf e ≡ Leave → 1 ≤ w .depth
     up i = leave-up (itemOf e) (docs (x .o)) (docs (n .after)) (w .depth) (n .deeper) (x .docs-are) i
 
-    pub keeps : {out′ slots′ qslots′ : List ℕ} {r : Spot} → i < length E → Turned t slots qslots out slots′ qslots′ out′ w (itemOf e) r
+    pub keeps : {out′ slots′ qslots′ : List ℕ} {r : Spot} → Ready t rows qrows → i < length E → Turned t slots qslots out slots′ qslots′ out′ w (itemOf e) r
         → Rel t N Q E fin first target total out′ slots′ qslots′ r (i + 1)
-    keeps {out′} {slots′} {qslots′} {r} less y =
+    keeps {out′} {slots′} {qslots′} {r} ready less y =
         let p = y .wrote .put in
         let a = acts t N Q said slots qslots (x .s) (w .depth) (x .kept) (x .shallow) m up (y .wrote .names-kept) (y .wrote .qnames-kept) in
         let b = bytes-are in
-        let few = item-few t slots qslots (1025 * w .depth) (itemOf e) short in
+        let few = item-few t slots qslots (region * w .depth) (itemOf e) short in
         let past = p .past in
         let near = x .near in
         let far = x .far in
         let rest : List ℕ = rest-of (scopesAfter (x .s) (ev e)) (suc i) in
         let c : length (rest-of (x .s) i) ≡ length (emit (x .s .here) (ev e)) + length rest = rw (come-is, length-append) in
-        let l : length (bytesFor t slots qslots (1025 * w .depth) (itemOf e)) ≡ length (emit (x .s .here) (ev e)) = ap length b in
+        let l : length (bytesFor t slots qslots (region * w .depth) (itemOf e)) ≡ length (emit (x .s .here) (ev e)) = ap length b in
         let z : i + 1 ≡ suc i = omega arith in
-        let h : 3 * (i + 1) ≡ 3 * i + 3 = omega arith in
+        let h : nameRows + 3 * (i + 1) ≡ (nameRows + 3 * i) + 3 = omega arith in
         let total-is = x .size in
         rw z
         (record {
@@ -232,8 +275,8 @@ module _ (t : Tables) (rows qrows : ℕ) (N : List NameRow) (Q : List QnameRow) 
           balanced = n .rest;
           docs-are = deeper-is (itemOf e) (docs (x .o)) (docs (n .after)) (w .depth) (n .deeper) (x .docs-are) ∙ ap suc (sym (y .depth-is));
           shallow = rw (y .depth-is) (deeper-few (itemOf e) (docs (x .o)) (docs (n .after)) (w .depth) (n .deeper) (x .docs-are) (x .shallow));
-          low = rw (← z, h) (names-lower (3 * i) t slots qslots slots′ (1025 * w .depth) (itemOf e) (y .wrote .names-kept) (x .low));
-          qlow = rw (← z, h) (qnames-lower (3 * i) t qslots qslots′ (1025 * w .depth) (itemOf e) (y .wrote .qnames-kept) (x .qlow));
+          held = rw (← z, h) (names-held t rows qrows ready (w .depth) (x .shallow) (nameRows + 3 * i) (omega arith) slots qslots slots′ (itemOf e) fits-here (y .wrote .names-kept) (x .held));
+          qheld = rw (← z, h) (qnames-held t rows qrows ready (w .depth) (x .shallow) (nameRows + 3 * i) (omega arith) qslots qslots′ (itemOf e) fits-here (y .wrote .qnames-kept) (x .qheld));
           near = omega arith;
           far = omega arith;
           within = less;
@@ -243,7 +286,7 @@ module _ (t : Tables) (rows qrows : ℕ) (N : List NameRow) (Q : List QnameRow) 
           either = x .either;
         })
       where
-        ends-same : (out out′ : List ℕ) (at next : ℕ) (rest : List ℕ) → Put out out′ at next (bytesFor t slots qslots (1025 * w .depth) (itemOf e))
+        ends-same : (out out′ : List ℕ) (at next : ℕ) (rest : List ℕ) → Put out out′ at next (bytesFor t slots qslots (region * w .depth) (itemOf e))
             → sets out′ next (rest-of (scopesAfter (x .s) (ev e)) (suc i)) ≡ sets out at (rest-of (x .s) i)
         ends-same out out′ at next rest p =
             rw (p .laid, p .past, bytes-are, come-is) (sets-append (emit (x .s .here) (ev e)) (rest-of (scopesAfter (x .s) (ev e)) (suc i)) out at)

@@ -9,12 +9,13 @@ use lib.Seq.{sets}
 use Rattle.sequences.specs.Lists.{same}
 use Rattle.machine.specs.Machine.{NameRow, QnameRow, EventRow, eventOf}
 use Rattle.machine.specs.Balance.{nothingOpen}
-use Rattle.machine.specs.Tables.{nameRowsIn, qnameRowsIn, eventRowsIn, eventsIn}
+use Rattle.machine.specs.Tables.{classCount, nameRowsIn, qnameRowsIn, eventRowsIn, eventsIn}
 use Rattle.form.specs.Canonical.{sameTriple, none-yet, body, headerOf, canonical}
 use Rattle.form_output.specs.Output.{Fits, Put}
 use Rattle.form_output.proofs.Laws.{put-then, put-length}
 use Rattle.classes.specs.Classes.{textsOf, triplesOf}
-use Rattle.form_slots.specs.Slots.{Low, Cleared}
+use Rattle.form_slots.specs.Slots.{Low, Cleared, Trails, region, slotCount}
+use Rattle.form_slots.proofs.TrailLaws.{trail-none}
 use Rattle.form_slots.proofs.Slots.{low-more}
 use Rattle.form_names.proofs.Layers as layers
 use Rattle.form_names.proofs.Layers.{marks-none}
@@ -44,7 +45,7 @@ module _ (t : Tables) (rows qrows : ℕ) {item item′ : Item} (e : item ≡ ite
 
 -- ---- nothing is defined yet
 
-zeros-cleared : (n : ℕ) → 1025 ≤ n → Cleared (replicate {A = ℕ} n 0) (replicate {A = ℕ} n 0) 0
+zeros-cleared : (n : ℕ) → classCount ≤ n → Cleared (replicate {A = ℕ} n 0) (replicate {A = ℕ} n 0) 0
 zeros-cleared n h =
     record {
       long = refl;
@@ -58,7 +59,7 @@ zero-each zero k = refl
 zero-each (suc n) zero = refl
 zero-each (suc n) (suc k) = zero-each n k
 
-zeros-low : (n most : ℕ) → n ≡ 9225 → Low most (replicate {A = ℕ} n 0)
+zeros-low : (n most : ℕ) → n ≡ slotCount → Low most (replicate {A = ℕ} n 0)
 zeros-low n most e = record { long = length-replicate {A = ℕ} n 0 ∙ e; each = λ k. rw (zero-each n k) (omega arith) }
 
 -- ---- the walk
@@ -96,9 +97,10 @@ module _ (t : Tables) (events : List ℕ) (rows qrows count : ℕ) where
   pub record Zeros (l : List ℕ) : Type 0 where
     pub low : Low 0 l
     pub cleared : Cleared l l 0
+    pub trails : Trails l
 
-  pub zeros : Zeros (replicate {A = ℕ} 9225 0)
-  zeros = record { low = zeros-low 9225 0 refl; cleared = zeros-cleared 9225 (omega arith) }
+  pub zeros : Zeros (replicate {A = ℕ} slotCount 0)
+  zeros = record { low = zeros-low slotCount 0 refl; cleared = zeros-cleared slotCount (omega arith); trails = λ d few. trail-none (λ k a b. zero-each slotCount k) }
 
   module _ (x : Prepared t events rows qrows count) where
     pub begins : (version : ℕ) {first out : List ℕ} {at : ℕ} (slots qslots : List ℕ) → Put out first 0 at (headerOf version)
@@ -123,8 +125,8 @@ module _ (t : Tables) (events : List ℕ) (rows qrows count : ℕ) where
           balanced = x .balanced;
           docs-are = refl;
           shallow = omega arith;
-          low = z .low;
-          qlow = z′ .low;
+          held = record { low = low-more (omega arith) (z .low); trails = z .trails };
+          qheld = record { low = low-more (omega arith) (z′ .low); trails = z′ .trails };
           near = omega arith;
           far = omega arith;
           within = omega arith;
@@ -137,7 +139,7 @@ module _ (t : Tables) (events : List ℕ) (rows qrows count : ℕ) where
     module _ {first out slots qslots : List ℕ} {w : Spot} {i : ℕ} (y : Inv first out slots qslots w i) (less : i < count) where
       pub asks : (i < 4096) × (eventWidth * i + eventWidth ≤ length events) × (getD events (eventWidth * i) 0 < 256) × Ready t rows qrows × ItemFits t rows qrows (w .depth) (itemAt events i)
           × Low 15000 slots × Low 15000 qslots × (w .depth ≤ 8) × (w .at ≤ 800000000000)
-          × Fits (length out) (w .at) (length (bytesFor t slots qslots (1025 * w .depth) (itemAt events i)))
+          × Fits (length out) (w .at) (length (bytesFor t slots qslots (region * w .depth) (itemAt events i))) × Trails slots × Trails qslots
       asks =
           let f = x .filled .efew in
           let g = x .filled .elong in
@@ -148,19 +150,21 @@ module _ (t : Tables) (events : List ℕ) (rows qrows count : ℕ) where
             ready t events rows qrows count x,
             fits-here t rows qrows N Q E (said t events rows qrows count x) nothingOpen (long-names t events rows qrows count x) (long-qnames t events rows qrows count x) y
                 (rowAt t events rows qrows count x i) (from-row t events rows qrows count x i less) (meets t events rows qrows count x i less) (x .filled .short),
-            low-more (omega arith) (y .low),
-            low-more (omega arith) (y .qlow),
+            low-more (omega arith) (y .held .low),
+            low-more (omega arith) (y .qheld .low),
             y .shallow,
             omega arith,
             room-here t rows qrows N Q E (said t events rows qrows count x) nothingOpen (long-names t events rows qrows count x) (long-qnames t events rows qrows count x) y
                 (rowAt t events rows qrows count x i) (from-row t events rows qrows count x i less) (meets t events rows qrows count x i less) (x .filled .short),
+            y .held .trails,
+            y .qheld .trails,
           )
 
       pub goes-on : {out′ slots′ qslots′ : List ℕ} {r : Spot} → Turned t slots qslots out slots′ qslots′ out′ w (itemAt events i) r → Inv first out′ slots′ qslots′ r (i + 1)
       goes-on z =
           let l = long-events t events rows qrows count x in
           keeps t rows qrows N Q E (said t events rows qrows count x) nothingOpen (long-names t events rows qrows count x) (long-qnames t events rows qrows count x) y
-          (rowAt t events rows qrows count x i) (from-row t events rows qrows count x i less) (meets t events rows qrows count x i less) (x .filled .short) (omega arith) z
+          (rowAt t events rows qrows count x i) (from-row t events rows qrows count x i less) (meets t events rows qrows count x i less) (x .filled .short) (ready t events rows qrows count x) (omega arith) z
 
     -- the header, and then all rows
     pub whole : (version : ℕ) {before first out slots qslots : List ℕ} {at : ℕ} {w : Spot} {i : ℕ} → Put before first 0 at (headerOf version)

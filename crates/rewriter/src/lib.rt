@@ -9,7 +9,7 @@ ghost use Rattle.machine.specs.Machine.{reading, roomIn};
 ghost use Rattle.machine.specs.Tables.{eventsIn};
 ghost use Rattle.form.specs.Canonical.{canonical};
 ghost use Rattle.form_output.specs.Output.{Fits, Put, farItems};
-ghost use Rattle.form_slots.specs.Slots.{Low, lowItems};
+ghost use Rattle.form_slots.specs.Slots.{Low, Trails, lowItems};
 ghost use Rattle.form_items.specs.Walk.{tables, baseAt, bytesFor, itemAt, Either, Turned, Ready, ItemFits, Prepared};
 ghost use Rattle.rewriter_contract.specs.Contract.{answer, FormWritten, Rewrites};
 use form_items::Spot;
@@ -25,8 +25,8 @@ fn turn(
     classes: &[u32; token::NAME_ROWS],
     qclasses: &[u32; token::QNAME_ROWS],
     out: &mut [u8],
-    slots: &mut [u32; form_slots::SLOTS],
-    qslots: &mut [u32; form_slots::SLOTS],
+    slots: &mut [u16; form_slots::SLOTS],
+    qslots: &mut [u16; form_slots::SLOTS],
     rows: usize,
     qrows: usize,
     i: usize,
@@ -36,7 +36,8 @@ fn turn(
         × Ready (tables (now doc) (now names) (now qnames) (now classes) (now qclasses)) rows qrows
         × ItemFits (tables (now doc) (now names) (now qnames) (now classes) (now qclasses)) rows qrows (w .depth) (itemAt (now events) i)
         × Low lowItems (now slots) × Low lowItems (now qslots) × (w .depth ≤ nestedDocuments) × (w .at ≤ farItems)
-        × Fits (length (now out)) (w .at) (length (bytesFor (tables (now doc) (now names) (now qnames) (now classes) (now qclasses)) (now slots) (now qslots) (baseAt (w .depth)) (itemAt (now events) i))) ⌝ }
+        × Fits (length (now out)) (w .at) (length (bytesFor (tables (now doc) (now names) (now qnames) (now classes) (now qclasses)) (now slots) (now qslots) (baseAt (w .depth)) (itemAt (now events) i)))
+        × Trails (now slots) × Trails (now qslots) ⌝ }
     ensures { λ r. ⌜ Turned (tables (now (doc .entry)) (now (names .entry)) (now (qnames .entry)) (now (classes .entry)) (now (qclasses .entry)))
         (now (slots .entry)) (now (qslots .entry)) (now (out .entry)) (now (slots .exit)) (now (qslots .exit)) (now (out .exit)) w (itemAt (now (events .entry)) i) r ⌝ }
 {
@@ -78,8 +79,8 @@ fn walk(
     ensures { λ r. ⌜ Put (now (out .entry)) (now (out .exit)) 0 r (canonical (read .version)
         (eventsIn (now (doc .entry)) (now (names .entry)) (now (qnames .entry)) (now (events .entry)) (read .names) (read .qnames) (read .events))) ⌝ }
 {
-    let mut slots = [0u32; form_slots::SLOTS];
-    let mut qslots = [0u32; form_slots::SLOTS];
+    let mut slots = [0u16; form_slots::SLOTS];
+    let mut qslots = [0u16; form_slots::SLOTS];
     let rows = read.names;
     let qrows = read.qnames;
     let at = form_bytes::put_header(out, 0, read.version as u8);

@@ -1,9 +1,6 @@
 -- `form_items::put_pi` meets its contract. Assumes nothing.
-use Rattle.form_items.proofs.Bytes.{pi-asks, pi-near, pi-number, pi-text, pi-put, not-refused}
+use Rattle.form_items.proofs.Bytes.{pi-asks, pi-low, pi-near, pi-number, pi-text, pi-put, not-refused}
 use native.Mathlib.Omega.{arith}
-use mathlib.Core.Path.{_∙_, ap}
-use lib.ListN.{length}
-use Rattle.form_names.proofs.Names.{slots-long}
 use borrow.Author.Needs.{needs}
 use Rattle.form_items.proofs.put_pi.Statement.{statement}
 use Rattle.form_items.proofs.put_pi.Tie as tie
@@ -21,13 +18,13 @@ number-in-requires : tie.Need-number-in-requires
 number-in-requires c κs =
     let at-define-name = c .before .before .before .before .before .before .before .before in
     let entry = at-define-name .before .before .before .before .before .before in
-    let a = entry .args in let p = entry .pre in let x = p .1 in let y = p .2 in let z = p .0 .few in (omega arith, ap length (at-define-name .define-name .ensures .1) ∙ slots-long (a .slots .now) (a .base) (a .class) ∙ p .3 .long)
+    let a = entry .args in let p = entry .pre in let x = p .1 in let y = p .2 in let z = p .0 .few in (omega arith, pi-low (a .doc .now) (a .names .now) (a .slots .now) (a .rows) (a .base) (a .class) (a .start) (p .0) (p .3) (p .1) (at-define-name .define-name .ensures .1))
 
 put-number-requires : tie.Need-put-number-requires
 put-number-requires c κs =
     let at-define-name = c .before .before .before .before .before .before .before .before .before in
     let entry = at-define-name .before .before .before .before .before .before in
-    let a = entry .args in let p = entry .pre in pi-number (a .doc .now) (a .names .now) (a .slots .now) (a .rows) (a .base) (a .class) (a .start) (p .0) (p .3) (at-define-name .define-name .ensures .0) (p .4) (at-define-name .define-name .ensures .1) (c .number-in .ensures)
+    let a = entry .args in let p = entry .pre in pi-number (a .doc .now) (a .names .now) (a .slots .now) (a .rows) (a .base) (a .class) (a .start) (p .0) (p .3) (at-define-name .define-name .ensures .0) (p .4) (p .1) (at-define-name .define-name .ensures .1) (c .number-in .ensures)
 
 put-text-requires : tie.Need-put-text-requires
 put-text-requires c κs =

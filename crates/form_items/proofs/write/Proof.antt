@@ -39,13 +39,13 @@ put-valued-requires : tie.Need-put-valued-requires
 put-valued-requires c κs = let a = c .before .before .before .before .before .before .before .before .before .args in let p = c .before .before .before .before .before .before .before .before .before .pre in let v = value-asks (tables (a .doc .now) (a .names .now) (a .qnames .now) (a .classes .now) (a .qclasses .now)) (a .rows) (a .qrows) (a .slots .now) (a .qslots .now) (a .out .now) (a .w) (a .item) (p .1) (p .2) (p .3) (p .4) (p .5) (p .6) (p .7) (c .before .before .item5 .given .1) in (p .0, v .0, v .1, v .2, v .3)
 
 add-put-nest : tie.Need-add-put-nest
-add-put-nest c = let a = c .before .before .before .before .before .before .before .before .before .before .before .args in let p = c .before .before .before .before .before .before .before .before .before .before .before .pre in let v = nest-asks (tables (a .doc .now) (a .names .now) (a .qnames .now) (a .classes .now) (a .qclasses .now)) (a .rows) (a .qrows) (a .slots .now) (a .qslots .now) (a .out .now) (a .w) (a .item) (p .1) (p .2) (p .3) (p .4) (p .5) (p .6) (p .7) (c .before .before .before .before .item6 .given .1) refl in let y = v .2 in omega arith
+add-put-nest c = let a = c .before .before .before .before .before .before .before .before .before .before .before .args in let p = c .before .before .before .before .before .before .before .before .before .before .before .pre in let v = nest-asks (tables (a .doc .now) (a .names .now) (a .qnames .now) (a .classes .now) (a .qclasses .now)) (a .rows) (a .qrows) (a .slots .now) (a .qslots .now) (a .out .now) (a .w) (a .item) (p .1) (p .2) (p .3) (p .4) (p .5) (p .6) (p .7) (p .8) (p .9) (c .before .before .before .before .item6 .given .1) refl in let y = v .2 in omega arith
 
 cast-put-nest : tie.Need-cast-put-nest
-cast-put-nest c = let a = c .before .before .before .before .before .before .before .before .before .before .before .args in let p = c .before .before .before .before .before .before .before .before .before .before .before .pre in let v = nest-asks (tables (a .doc .now) (a .names .now) (a .qnames .now) (a .classes .now) (a .qclasses .now)) (a .rows) (a .qrows) (a .slots .now) (a .qslots .now) (a .out .now) (a .w) (a .item) (p .1) (p .2) (p .3) (p .4) (p .5) (p .6) (p .7) (c .before .before .before .before .item6 .given .1) refl in let y = v .0 in omega arith
+cast-put-nest c = let a = c .before .before .before .before .before .before .before .before .before .before .before .args in let p = c .before .before .before .before .before .before .before .before .before .before .before .pre in let v = nest-asks (tables (a .doc .now) (a .names .now) (a .qnames .now) (a .classes .now) (a .qclasses .now)) (a .rows) (a .qrows) (a .slots .now) (a .qslots .now) (a .out .now) (a .w) (a .item) (p .1) (p .2) (p .3) (p .4) (p .5) (p .6) (p .7) (p .8) (p .9) (c .before .before .before .before .item6 .given .1) refl in let y = v .0 in omega arith
 
 put-nest-requires : tie.Need-put-nest-requires
-put-nest-requires c κs = let a = c .before .before .before .before .before .before .before .before .before .before .before .args in let p = c .before .before .before .before .before .before .before .before .before .before .before .pre in let v = nest-asks (tables (a .doc .now) (a .names .now) (a .qnames .now) (a .classes .now) (a .qclasses .now)) (a .rows) (a .qrows) (a .slots .now) (a .qslots .now) (a .out .now) (a .w) (a .item) (p .1) (p .2) (p .3) (p .4) (p .5) (p .6) (p .7) (c .before .before .before .before .item6 .given .1) refl in (v .1, v .2, v .3, v .4)
+put-nest-requires c κs = let a = c .before .before .before .before .before .before .before .before .before .before .before .args in let p = c .before .before .before .before .before .before .before .before .before .before .before .pre in let v = nest-asks (tables (a .doc .now) (a .names .now) (a .qnames .now) (a .classes .now) (a .qclasses .now)) (a .rows) (a .qrows) (a .slots .now) (a .qslots .now) (a .out .now) (a .w) (a .item) (p .1) (p .2) (p .3) (p .4) (p .5) (p .6) (p .7) (p .8) (p .9) (c .before .before .before .before .item6 .given .1) refl in (v .1, v .2, v .3, v .4, v .5, v .6)
 
 returns : tie.Need-returns
 returns c = let a = c .before .before .before .before .before .before .before .before .before .before .before .before .args in let p = c .before .before .before .before .before .before .before .before .before .before .before .before .pre in wrote-byte (tables (a .doc .now) (a .names .now) (a .qnames .now) (a .classes .now) (a .qclasses .now)) (a .rows) (a .qrows) (a .slots .now) (a .qslots .now) (a .out .now) (a .w) (a .item) (p .1) (p .2) (p .3) (p .4) (p .5) (p .6) (p .7) (c .before .before .before .before .before .item .given .1) (c .before .before .put-byte .ensures)

@@ -13,7 +13,7 @@ define-texts-requires : tie.Need-define-texts-requires
 define-texts-requires c κs = let a = c .before .before .before .before .before .before .before .args in let p = c .before .before .before .before .before .before .before .pre in (p .0, p .1, p .4, p .5, p .7, texts-fit (a .doc .now) (a .names .now) (a .slots .now) (a .qslots .now) (a .base) (a .q) (a .class) (p .2) (c .before .before .if1 .left) (a .out .now) (a .at) (p .8))
 
 mark-requires : tie.Need-mark-requires
-mark-requires c κs = let p = c .before .before .before .before .before .before .before .before .before .before .before .pre in let x = p .3 in let y = p .4 in (omega arith, low-more (omega arith) (p .6))
+mark-requires c κs = let p = c .before .before .before .before .before .before .before .before .before .before .before .pre in (p .3, p .4, low-more (omega arith) (p .6))
 
 put-qname-requires : tie.Need-put-qname-requires
 put-qname-requires c κs =

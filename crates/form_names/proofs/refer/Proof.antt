@@ -15,13 +15,13 @@ number-in-requires : tie.Need-number-in-requires
 number-in-requires c κs =
     let at-define-qname = c .before .before .before .before .before .before .before .before in
     let entry = at-define-qname .before .before .before .before .before .before .before in
-    let p = entry .pre in let x = at-define-qname .define-qname .ensures in let y = p .3 in let z = p .4 in (omega arith, after-low _ _ _ _ (p .6) (x .2) .long)
+    let p = entry .pre in let x = at-define-qname .define-qname .ensures in let y = p .3 in let z = p .4 in (omega arith, after-low _ _ _ _ (p .3) (p .6) (x .2))
 
 put-number-requires : tie.Need-put-number-requires
 put-number-requires c κs =
     let at-define-qname = c .before .before .before .before .before .before .before .before .before in
     let entry = at-define-qname .before .before .before .before .before .before .before in
-    let a = entry .args in let p = entry .pre in let x = at-define-qname .define-qname .ensures in let n = refer-near (a .doc .now) (a .names .now) (a .slots .now) (a .qslots .now) (a .base) (a .q) (a .class) (p .0 .short) (p .7) (x .0) in number-asks _ (a .base) (a .class) (after-low _ _ _ _ (p .6) (x .2)) (c .number-in .ensures) (omega arith)
+    let a = entry .args in let p = entry .pre in let x = at-define-qname .define-qname .ensures in let n = refer-near (a .doc .now) (a .names .now) (a .slots .now) (a .qslots .now) (a .base) (a .q) (a .class) (p .0 .short) (p .7) (x .0) in number-asks _ (a .base) (a .class) (after-low _ _ _ _ (p .3) (p .6) (x .2)) (c .number-in .ensures) (omega arith)
 
 returns : tie.Need-returns
 returns c =

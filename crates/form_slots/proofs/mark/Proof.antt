@@ -6,7 +6,7 @@ use Rattle.form_slots.proofs.mark.Statement.{statement}
 use Rattle.form_slots.proofs.mark.Tie as tie
 
 add-count : tie.Need-add-count
-add-count c = omega (arith, c .before .pre .1 .each (c .before .args .base))
+add-count c = omega (arith, c .before .pre .2 .each (c .before .args .base))
 
 returns : tie.Need-returns
 returns c = marked-is _ _ _
@@ -18,6 +18,17 @@ mark-spec =
     (λ c. search needs)
     (λ c. search needs)
     add-count
+    (λ c. search needs)
+    (λ c. search needs)
+    (λ c. search needs)
+    (λ c. search needs)
+    (λ c. search needs)
+    (λ c. search needs)
+    (λ c. search needs)
+    (λ c. search needs)
+    (λ c. search needs)
+    (λ c. search needs)
+    (λ c. search needs)
     (λ c. search needs)
     (λ c. search needs)
     (λ c. search needs)

@@ -9,7 +9,7 @@ depth-after-requires : tie.Need-depth-after-requires
 depth-after-requires c κs = let a = c .before .before .before .before .before .before .args in let p = c .before .before .before .before .before .before .pre in (p .8, λ i. leave-there (tables (a .doc .now) (a .names .now) (a .qnames .now) (a .classes .now) (a .qclasses .now)) (a .rows) (a .qrows) (c .look .ensures) (a .w .depth) (p .5) i)
 
 write-requires : tie.Need-write-requires
-write-requires c κs = let a = c .before .before .before .before .before .before .before .before .before .before .args in let p = c .before .before .before .before .before .before .before .before .before .before .pre in let l = c .before .before .before .before .look .ensures in (p .0, p .4, item-there (tables (a .doc .now) (a .names .now) (a .qnames .now) (a .classes .now) (a .qclasses .now)) (a .rows) (a .qrows) l (a .w .depth) (p .5), p .6, p .7, p .8, p .9, room-there (tables (a .doc .now) (a .names .now) (a .qnames .now) (a .classes .now) (a .qclasses .now)) (a .rows) (a .qrows) l (a .slots .now) (a .qslots .now) (a .out .now) (a .w .at) _ (p .10))
+write-requires c κs = let a = c .before .before .before .before .before .before .before .before .before .before .args in let p = c .before .before .before .before .before .before .before .before .before .before .pre in let l = c .before .before .before .before .look .ensures in (p .0, p .4, item-there (tables (a .doc .now) (a .names .now) (a .qnames .now) (a .classes .now) (a .qclasses .now)) (a .rows) (a .qrows) l (a .w .depth) (p .5), p .6, p .7, p .8, p .9, room-there (tables (a .doc .now) (a .names .now) (a .qnames .now) (a .classes .now) (a .qclasses .now)) (a .rows) (a .qrows) l (a .slots .now) (a .qslots .now) (a .out .now) (a .w .at) _ (p .10), p .11, p .12)
 
 returns : tie.Need-returns
 returns c =

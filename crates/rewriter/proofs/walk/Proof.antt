@@ -25,7 +25,7 @@ turn-requires : tie.Need-turn-requires Inv-loop μ-loop
 turn-requires c κs =
     let at-loop = c .before .before .before .before .before in
     let entry = at-loop .before .before .before .before .before .before .before .before .before .before .before in
-    let a = entry .args in let p = entry .pre in let q = asks (tables (a .doc .now) (a .names .now) (a .qnames .now) (a .classes .now) (a .qclasses .now)) (a .events .now) (a .read .names) (a .read .qnames) (a .read .events) (p .1) (at-loop .loop .inv) (c .before .before .before .if1 .taken) in (p .0, q .0, q .1, q .2, q .3, q .4, q .5, q .6, q .7, q .8, q .9)
+    let a = entry .args in let p = entry .pre in let q = asks (tables (a .doc .now) (a .names .now) (a .qnames .now) (a .classes .now) (a .qclasses .now)) (a .events .now) (a .read .names) (a .read .qnames) (a .read .events) (p .1) (at-loop .loop .inv) (c .before .before .before .if1 .taken) in (p .0, q .0, q .1, q .2, q .3, q .4, q .5, q .6, q .7, q .8, q .9, q .10, q .11)
 
 loop-again : tie.Need-loop-again Inv-loop μ-loop
 loop-again c =
