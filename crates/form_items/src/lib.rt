@@ -14,6 +14,8 @@ ghost use mathlib.Core.List.{[], _∷_, _++_};
 ghost use Rattle.sequences.specs.Lists.{part};
 ghost use Rattle.token.specs.Tokens.{shapeOf, NEST-TOKEN, eventWidth, longest, eventRows, nestedDocuments};
 use token::Class;
+use token::NameNumber;
+use token::QnameNumber;
 use value::Text;
 
 // What row i of the events asks.
@@ -178,18 +180,18 @@ fn put_pi(
     rows: usize,
     at: usize,
     base: usize,
-    class: usize,
+    class: NameNumber,
     start: usize,
 ) -> usize
-    requires { ⌜ NamesInside (now doc) (now names) rows × (class ≤ rows) × (base + region ≤ slotCount) × Low lowItems (now slots) × (at ≤ farQnames)
+    requires { ⌜ NamesInside (now doc) (now names) rows × (class .0 ≤ rows) × (base + region ≤ slotCount) × Low lowItems (now slots) × (at ≤ farQnames)
         × TextThere (now doc) start
-        × Fits (length (now out)) at (length (piBytes (tables (now doc) (now names) [] [] []) (now slots) base class start)) ⌝ }
-    ensures { λ r. ⌜ Put (now (out .entry)) (now (out .exit)) at r (piBytes (tables (now (doc .entry)) (now (names .entry)) [] [] []) (now (slots .entry)) base class start)
-        × (now (slots .exit) ≡ slotsAfter (now (slots .entry)) base class) ⌝ }
+        × Fits (length (now out)) at (length (piBytes (tables (now doc) (now names) [] [] []) (now slots) base (class .0) start)) ⌝ }
+    ensures { λ r. ⌜ Put (now (out .entry)) (now (out .exit)) at r (piBytes (tables (now (doc .entry)) (now (names .entry)) [] [] []) (now (slots .entry)) base (class .0) start)
+        × (now (slots .exit) ≡ slotsAfter (now (slots .entry)) base (class .0)) ⌝ }
 {
     let p = form_names::define_name(doc, names, out, slots, rows, at, base, class);
     form_output::put(out, p, token::PI_TOKEN);
-    let x = form_output::put_number(out, p + 1, form_slots::number_in(slots, base, class));
+    let x = form_names::put_name_number(out, p + 1, form_slots::name_number(slots, base, class));
     match value::text_at(doc, start, token::MB32) {
         Text::Is { place, units } => form_bytes::put_text(doc, place, units, out, x),
         Text::Refused {
@@ -252,12 +254,12 @@ pub fn write(
             units,
         } => put_texted(doc, out, at, token, place, units),
         Item::Pi { row, start } => {
-            let class = classes::class_at(classes, row) as usize;
+            let class = NameNumber(classes::class_at(classes, row) as usize);
             put_pi(doc, names, out, slots, rows, at, base, class, start)
         }
         Item::Refer { token, row } => {
             let q = form_slots::parts_at(qnames, classes, row - 1);
-            let class = classes::class_at(qclasses, row) as usize;
+            let class = QnameNumber(classes::class_at(qclasses, row) as usize);
             form_names::refer(
                 doc,
                 names,

@@ -78,14 +78,14 @@ slots-low most slots base class small l = go (isNew slots base class)
 pub slots3-agree : (slots : List ℕ) (base : ℕ) (q : Parts) → Agree base slots (slots3 slots base q)
 unfolding slots1 slots2 slots3
 slots3-agree slots base q =
-    agree-then (slots-agree slots base (q .uri))
-    (agree-then (slots-agree (slotsAfter slots base (q .uri)) base (q .prefix)) (slots-agree (slotsAfter (slotsAfter slots base (q .uri)) base (q .prefix)) base (q .local)))
+    agree-then (slots-agree slots base (q .uri .0))
+    (agree-then (slots-agree (slotsAfter slots base (q .uri .0)) base (q .prefix .0)) (slots-agree (slotsAfter (slotsAfter slots base (q .uri .0)) base (q .prefix .0)) base (q .local .0)))
 
 pub slots3-long : (slots : List ℕ) (base : ℕ) (q : Parts) → length (slots3 slots base q) ≡ length slots
 unfolding slots1 slots2 slots3
 slots3-long slots base q =
-    slots-long (slotsAfter (slotsAfter slots base (q .uri)) base (q .prefix)) base (q .local) ∙ slots-long (slotsAfter slots base (q .uri)) base (q .prefix)
-    ∙ slots-long slots base (q .uri)
+    slots-long (slotsAfter (slotsAfter slots base (q .uri .0)) base (q .prefix .0)) base (q .local .0) ∙ slots-long (slotsAfter slots base (q .uri .0)) base (q .prefix .0)
+    ∙ slots-long slots base (q .uri .0)
 
 pub slots3-low : (most : ℕ) (slots : List ℕ) (base : ℕ) (q : Parts) → PartsFit most q → Low most slots → Low (most + 3) (slots3 slots base q)
 unfolding slots1 slots2 slots3
@@ -94,7 +94,7 @@ slots3-low most slots base q fit l =
     let u = fit .uri-in in
     let v = fit .prefix-in in
     let w = fit .local-in in
-    rw z at (slots-low ((most + 1) + 1) _ base (q .local) (omega arith) (slots-low (most + 1) _ base (q .prefix) (omega arith) (slots-low most slots base (q .uri) (omega arith) l)))
+    rw z at (slots-low ((most + 1) + 1) _ base (q .local .0) (omega arith) (slots-low (most + 1) _ base (q .prefix .0) (omega arith) (slots-low most slots base (q .uri .0) (omega arith) l)))
 
 pub names-agree : (slots qslots : List ℕ) (base : ℕ) (q : Parts) (class : ℕ) → Agree base slots (namesAfter slots qslots base q class)
 unfolding namesAfter
@@ -139,9 +139,9 @@ module _ (d : ℕ) (few : d ≤ nestedDocuments) where
   pub slots3-trails : (slots : List ℕ) (q : Parts) → PartsFit nameRows q → length slots ≡ slotCount → Trails slots → Trails (slots3 slots (region * d) q)
   unfolding slots1 slots2 slots3
   slots3-trails slots q fit long x =
-      let l = slots-long slots (region * d) (q .uri) ∙ long in
-      let m = slots-long (slotsAfter slots (region * d) (q .uri)) (region * d) (q .prefix) ∙ l in
-      slots-trails _ (q .local) (fit .local-in) m (slots-trails _ (q .prefix) (fit .prefix-in) l (slots-trails slots (q .uri) (fit .uri-in) long x))
+      let l = slots-long slots (region * d) (q .uri .0) ∙ long in
+      let m = slots-long (slotsAfter slots (region * d) (q .uri .0)) (region * d) (q .prefix .0) ∙ l in
+      slots-trails _ (q .local .0) (fit .local-in) m (slots-trails _ (q .prefix .0) (fit .prefix-in) l (slots-trails slots (q .uri .0) (fit .uri-in) long x))
 
   pub names-trails : (slots qslots : List ℕ) (q : Parts) (class : ℕ) → PartsFit nameRows q → length slots ≡ slotCount → Trails slots → Trails (namesAfter slots qslots (region * d) q class)
   unfolding namesAfter
@@ -215,7 +215,8 @@ module _ (doc names : List ℕ) (T : List (List ℕ)) where
 
   -- the classes of a qname's texts
   abbrev pub partsOf : Triple → Parts
-  partsOf q = record { uri = numberOf T (q .uri); prefix = numberOf T (q .prefix); local = numberOf T (q .local) }
+  partsOf q =
+      record { uri = record { 0 = numberOf T (q .uri) }; prefix = record { 0 = numberOf T (q .prefix) }; local = record { 0 = numberOf T (q .local) } }
 
   pub record Has3 (q : Triple) : Type 0 where
     pub uri : Has T (q .uri)

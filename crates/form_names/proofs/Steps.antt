@@ -101,46 +101,46 @@ module _ (doc names : List ℕ) (rows base : ℕ) (q : Parts) (t : NamesInside d
 
   module _ (slots out : List ℕ) (at : ℕ) where
     abbrev bytes1 : List ℕ
-    bytes1 = bytesBefore doc names slots base (q .uri)
+    bytes1 = bytesBefore doc names slots base (q .uri .0)
 
     abbrev bytes2 : List ℕ
-    bytes2 = bytesBefore doc names (slots1 slots base q) base (q .prefix)
+    bytes2 = bytesBefore doc names (slots1 slots base q) base (q .prefix .0)
 
     abbrev bytes3 : List ℕ
-    bytes3 = bytesBefore doc names (slots2 slots base q) base (q .local)
+    bytes3 = bytesBefore doc names (slots2 slots base q) base (q .local .0)
 
     all-fit : Fits (length out) at (length (textsBefore doc names slots base q)) → Fits (length out) at (length (bytes1 ++ (bytes2 ++ bytes3)))
     unfolding textsBefore
     all-fit f = f
 
-    pub uri-asks : Low 19000 slots → at ≤ 900000000000 → Fits (length out) at (length (textsBefore doc names slots base q)) → Asks slots out at (q .uri)
+    pub uri-asks : Low 19000 slots → at ≤ 900000000000 → Fits (length out) at (length (textsBefore doc names slots base q)) → Asks slots out at (q .uri .0)
     uri-asks low near f = (t, fit .uri-in, b, low-more (omega arith) low, omega arith, fits-first bytes1 (bytes2 ++ bytes3) (all-fit f))
 
     low1 : Low 19000 slots → Low 19001 (slots1 slots base q)
     unfolding slots1
-    low1 low = let u = fit .uri-in in let n = t .few in slots-low 19000 slots base (q .uri) (omega arith) low
+    low1 low = let u = fit .uri-in in let n = t .few in slots-low 19000 slots base (q .uri .0) (omega arith) low
 
     low2 : Low 19000 slots → Low 19002 (slots2 slots base q)
     unfolding slots2
-    low2 low = let v = fit .prefix-in in let n = t .few in slots-low 19001 (slots1 slots base q) base (q .prefix) (omega arith) (low1 low)
+    low2 low = let v = fit .prefix-in in let n = t .few in slots-low 19001 (slots1 slots base q) base (q .prefix .0) (omega arith) (low1 low)
 
     pub prefix-asks : (s m : List ℕ) (x : ℕ) → Low 19000 slots → at ≤ 900000000000 → Fits (length out) at (length (textsBefore doc names slots base q))
-        → Put out m at x bytes1 → s ≡ slotsAfter slots base (q .uri) → Asks s m x (q .prefix)
+        → Put out m at x bytes1 → s ≡ slotsAfter slots base (q .uri .0) → Asks s m x (q .prefix .0)
     unfolding slots1
     prefix-asks s m x low near f p e =
-        let few = bytes-few doc names slots base (q .uri) in
+        let few = bytes-few doc names slots base (q .uri .0) in
         let past = p .past in
         let short = t .short in
         let g = fits-next (bytes2 ++ bytes3) p (all-fit f) in
         rw e (t, fit .prefix-in, b, low-more (omega arith) (low1 low), omega arith, fits-first bytes2 bytes3 g)
 
     pub local-asks : (s s′ m m′ : List ℕ) (x y : ℕ) → Low 19000 slots → at ≤ 900000000000 → Fits (length out) at (length (textsBefore doc names slots base q))
-        → Put out m at x bytes1 → s ≡ slotsAfter slots base (q .uri) → Put m m′ x y (bytesBefore doc names s base (q .prefix)) → s′ ≡ slotsAfter s base (q .prefix)
-        → Asks s′ m′ y (q .local)
+        → Put out m at x bytes1 → s ≡ slotsAfter slots base (q .uri .0) → Put m m′ x y (bytesBefore doc names s base (q .prefix .0)) → s′ ≡ slotsAfter s base (q .prefix .0)
+        → Asks s′ m′ y (q .local .0)
     unfolding slots1 slots2
     local-asks s s′ m m′ x y low near f p e p′ e′ =
-        let few = bytes-few doc names slots base (q .uri) in
-        let few′ = bytes-few doc names s base (q .prefix) in
+        let few = bytes-few doc names slots base (q .uri .0) in
+        let few′ = bytes-few doc names s base (q .prefix .0) in
         let past = p .past in
         let past′ = p′ .past in
         let short = t .short in
@@ -150,9 +150,9 @@ module _ (doc names : List ℕ) (rows base : ℕ) (q : Parts) (t : NamesInside d
         let near′ : y ≤ 1000000000000 = omega arith in
         rw i (t, fit .local-in, b, low-more (omega arith) (low2 low), near′, g)
 
-    pub texts-put : (s s′ s″ m m′ m″ : List ℕ) (x y z : ℕ) → Put out m at x bytes1 → s ≡ slotsAfter slots base (q .uri)
-        → Put m m′ x y (bytesBefore doc names s base (q .prefix)) → s′ ≡ slotsAfter s base (q .prefix)
-        → Put m′ m″ y z (bytesBefore doc names s′ base (q .local)) → s″ ≡ slotsAfter s′ base (q .local)
+    pub texts-put : (s s′ s″ m m′ m″ : List ℕ) (x y z : ℕ) → Put out m at x bytes1 → s ≡ slotsAfter slots base (q .uri .0)
+        → Put m m′ x y (bytesBefore doc names s base (q .prefix .0)) → s′ ≡ slotsAfter s base (q .prefix .0)
+        → Put m′ m″ y z (bytesBefore doc names s′ base (q .local .0)) → s″ ≡ slotsAfter s′ base (q .local .0)
         → Put out m″ at z (textsBefore doc names slots base q) × (s″ ≡ slots3 slots base q)
     unfolding textsBefore slots1 slots2 slots3
     texts-put s s′ s″ m m′ m″ x y z p e p′ e′ p″ e″ =
@@ -165,23 +165,23 @@ module _ (doc names : List ℕ) (rows base : ℕ) (q : Parts) (t : NamesInside d
 pub texts-few : (doc names slots : List ℕ) (base : ℕ) (q : Parts) → length (textsBefore doc names slots base q) ≤ 18 + qnameWidth * length doc
 unfolding textsBefore
 texts-few doc names slots base q =
-    let a = bytes-few doc names slots base (q .uri) in
-    let b = bytes-few doc names (slots1 slots base q) base (q .prefix) in
-    let c = bytes-few doc names (slots2 slots base q) base (q .local) in
+    let a = bytes-few doc names slots base (q .uri .0) in
+    let b = bytes-few doc names (slots1 slots base q) base (q .prefix .0) in
+    let c = bytes-few doc names (slots2 slots base q) base (q .local .0) in
     rw (length-append, length-append) (omega arith)
 
 pub numbers-few : (slots : List ℕ) (base : ℕ) (q : Parts) → length (qnameNumbers slots base q) ≤ 16
 unfolding qnameNumbers
 numbers-few slots base q =
-    let a = shortest-few (numberIn slots base (q .uri)) in
-    let b = shortest-few (numberIn slots base (q .prefix)) in
-    let c = shortest-few (numberIn slots base (q .local)) in
+    let a = shortest-few (numberIn slots base (q .uri .0)) in
+    let b = shortest-few (numberIn slots base (q .prefix .0)) in
+    let c = shortest-few (numberIn slots base (q .local .0)) in
     rw (length-append, length-append) (omega arith)
 
 -- ---- the definition of a qname
 
-pub qname-put : (slots : List ℕ) (base : ℕ) (q : Parts) {b m m′ m″ e : List ℕ} {at x y z k l n : ℕ} → m ≡ set b at 0xEF → k ≡ numberIn slots base (q .uri)
-    → Put m m′ (at + 1) x (shortest k) → l ≡ numberIn slots base (q .prefix) → Put m′ m″ x y (shortest l) → n ≡ numberIn slots base (q .local) → Put m″ e y z (shortest n)
+pub qname-put : (slots : List ℕ) (base : ℕ) (q : Parts) {b m m′ m″ e : List ℕ} {at x y z k l n : ℕ} → m ≡ set b at 0xEF → k ≡ numberIn slots base (q .uri .0)
+    → Put m m′ (at + 1) x (shortest k) → l ≡ numberIn slots base (q .prefix .0) → Put m′ m″ x y (shortest l) → n ≡ numberIn slots base (q .local .0) → Put m″ e y z (shortest n)
     → Put b e at z (qnameNumbers slots base q)
 unfolding qnameNumbers
 qname-put slots base q i e₁ p e₂ p′ e₃ p″ = rw (← e₁, ← e₂, ← e₃) (put-then (put-byte i) (put-then p (put-then p′ p″)))

@@ -22,22 +22,22 @@ bytesBefore doc names slots base class = cond (isNew slots base class) (NAMEDEF-
 
 -- after each of its names
 unfoldable pub slots1 : List ℕ → ℕ → Parts → List ℕ
-slots1 slots base q = slotsAfter slots base (q .uri)
+slots1 slots base q = slotsAfter slots base (q .uri .0)
 
 unfoldable pub slots2 : List ℕ → ℕ → Parts → List ℕ
-slots2 slots base q = slotsAfter (slots1 slots base q) base (q .prefix)
+slots2 slots base q = slotsAfter (slots1 slots base q) base (q .prefix .0)
 
 unfoldable pub slots3 : List ℕ → ℕ → Parts → List ℕ
-slots3 slots base q = slotsAfter (slots2 slots base q) base (q .local)
+slots3 slots base q = slotsAfter (slots2 slots base q) base (q .local .0)
 
 unfoldable pub textsBefore : List ℕ → List ℕ → List ℕ → ℕ → Parts → List ℕ
 textsBefore doc names slots base q =
-    bytesBefore doc names slots base (q .uri)
-    ++ (bytesBefore doc names (slots1 slots base q) base (q .prefix) ++ bytesBefore doc names (slots2 slots base q) base (q .local))
+    bytesBefore doc names slots base (q .uri .0)
+    ++ (bytesBefore doc names (slots1 slots base q) base (q .prefix .0) ++ bytesBefore doc names (slots2 slots base q) base (q .local .0))
 
 unfoldable pub qnameNumbers : List ℕ → ℕ → Parts → List ℕ
 qnameNumbers slots base q =
-    QNAMEDEF-TOKEN ∷ (shortest (numberIn slots base (q .uri)) ++ (shortest (numberIn slots base (q .prefix)) ++ shortest (numberIn slots base (q .local))))
+    QNAMEDEF-TOKEN ∷ (shortest (numberIn slots base (q .uri .0)) ++ (shortest (numberIn slots base (q .prefix .0)) ++ shortest (numberIn slots base (q .local .0))))
 
 -- the definition that a qname of this class needs
 unfoldable pub qnameBefore : List ℕ → List ℕ → List ℕ → List ℕ → ℕ → Parts → ℕ → List ℕ

@@ -18,8 +18,12 @@ pub slot-number : (slots : List ℕ) (base class : ℕ) {r : ℕ} → (class ≡
 slot-number slots base zero n e = absurd (n refl)
 slot-number slots base (suc k) n e = e
 
+-- the class of a qname is a row, and never 0
+pub row-number : (slots : List ℕ) (base class : ℕ) {r : ℕ} → 1 ≤ class → r ≡ getD slots (base + class) 0 → r ≡ numberIn slots base class
+row-number slots base class from e = slot-number slots base class (λ z. omega arith) e
+
 pub parts-is : (qnames classes : List ℕ) (k : ℕ) {x y z u v w : ℕ} → x ≡ getD qnames (qnameWidth * k) 0 → y ≡ getD qnames (qnameWidth * k + 1) 0 → z ≡ getD qnames (qnameWidth * k + 2) 0
-    → u ≡ classAt classes x → v ≡ classAt classes y → w ≡ classAt classes z → record { uri = u; prefix = v; local = w } ≡ partsAt qnames classes k
+    → u ≡ classAt classes x → v ≡ classAt classes y → w ≡ classAt classes z → record { uri = record { 0 = u }; prefix = record { 0 = v }; local = record { 0 = w } } ≡ partsAt qnames classes k
 parts-is qnames classes k a b c d e f = rw (d, e, f, a, b, c)
 
 pub marked-is : (slots : List ℕ) (base class : ℕ)

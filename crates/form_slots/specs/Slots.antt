@@ -56,9 +56,9 @@ numberIn slots base (suc k) = getD slots (base + suc k) 0
 abbrev pub partsAt : List ℕ → List ℕ → ℕ → Parts
 partsAt qnames classes k =
     record {
-      uri = classAt classes (getD qnames (qnameWidth * k) 0);
-      prefix = classAt classes (getD qnames (qnameWidth * k + 1) 0);
-      local = classAt classes (getD qnames (qnameWidth * k + 2) 0);
+      uri = record { 0 = classAt classes (getD qnames (qnameWidth * k) 0) };
+      prefix = record { 0 = classAt classes (getD qnames (qnameWidth * k + 1) 0) };
+      local = record { 0 = classAt classes (getD qnames (qnameWidth * k + 2) 0) };
     }
 
 -- ---- bounds
@@ -69,9 +69,9 @@ pub record Low (most : ℕ) (slots : List ℕ) : Type 0 where
   pub each : (k : ℕ) → getD slots k 0 ≤ most
 
 pub record PartsFit (rows : ℕ) (q : Parts) : Type 0 where
-  pub uri-in : q .uri ≤ rows
-  pub prefix-in : q .prefix ≤ rows
-  pub local-in : q .local ≤ rows
+  pub uri-in : q .uri .0 ≤ rows
+  pub prefix-in : q .prefix .0 ≤ rows
+  pub local-in : q .local .0 ≤ rows
 
 -- the 1,025 numbers from a base on are 0, the others as they were
 pub record Cleared (before after : List ℕ) (base : ℕ) : Type 0 where

@@ -4,6 +4,8 @@ ghost use Prim.Native.Nat.{_+_, _*_, _≤_, _<_};
 ghost use lib.ListN.{length, getD};
 ghost use Rattle.form_slots.specs.Slots.{marked, numberIn, partsAt, Low, Trail, Cleared, slotCount, region, lowNames};
 ghost use Rattle.token.specs.Tokens.{qnameWidth, nameRows, qnameRows};
+use token::NameNumber;
+use token::QnameNumber;
 
 // How many classes are defined, and the number of each.
 pub const CLASSES: usize = token::NAME_ROWS + 1;
@@ -16,9 +18,9 @@ pub const SLOTS: usize = REGION * (token::NESTED_DOCUMENTS + 1);
 
 // The classes of a qname's URI, prefix and local name.
 pub struct Parts {
-    pub uri: usize,
-    pub prefix: usize,
-    pub local: usize,
+    pub uri: NameNumber,
+    pub prefix: NameNumber,
+    pub local: NameNumber,
 }
 
 // The classes of the names of qname row k, counted from 0.
@@ -27,31 +29,37 @@ pub fn parts_at(qnames: &[u32], classes: &[u32; token::NAME_ROWS], k: usize) -> 
         × (getD (now qnames) (qnameWidth * k + 1) 0 ≤ nameRows) × (getD (now qnames) (qnameWidth * k + 2) 0 ≤ nameRows) ⌝ }
     ensures { λ r. ⌜ r ≡ partsAt (now (qnames .entry)) (now (classes .entry)) k ⌝ }
 {
-    let uri = classes::class_at(classes, slices::cell(qnames, token::QNAME_WIDTH * k)) as usize;
-    let prefix = classes::class_at(
-        classes,
-        slices::cell(qnames, token::QNAME_WIDTH * k + 1),
-    ) as usize;
-    let local = classes::class_at(
-        classes,
-        slices::cell(qnames, token::QNAME_WIDTH * k + 2),
-    ) as usize;
-    Parts { uri, prefix, local }
+    let uri = classes::class_at(classes, slices::cell(qnames, token::QNAME_WIDTH * k));
+    let prefix = classes::class_at(classes, slices::cell(qnames, token::QNAME_WIDTH * k + 1));
+    let local = classes::class_at(classes, slices::cell(qnames, token::QNAME_WIDTH * k + 2));
+    Parts {
+        uri: NameNumber(uri as usize),
+        prefix: NameNumber(prefix as usize),
+        local: NameNumber(local as usize),
+    }
 }
 
-// The number of a class in the document whose region begins at `base`; 0 where it is not defined.
-pub fn number_in(slots: &[u16; SLOTS], base: usize, class: usize) -> usize
-    requires { ⌜ (base + class < slotCount) × Low lowNames (now slots) ⌝ }
-    ensures { λ r. ⌜ r ≡ numberIn (now (slots .entry)) base class ⌝ }
+// The number of a class in the document whose region begins at `base`; 0 where it is not defined. Only the class of a name gives a
+// name's number, and only that of a qname a qname's.
+pub fn name_number(slots: &[u16; SLOTS], base: usize, class: NameNumber) -> NameNumber
+    requires { ⌜ (base + class .0 < slotCount) × Low lowNames (now slots) ⌝ }
+    ensures { λ r. ⌜ r .0 ≡ numberIn (now (slots .entry)) base (class .0) ⌝ }
 {
-    if class == 0 {
-        return 0;
+    if class.0 == 0 {
+        return NameNumber(0);
     }
-    slots[base + class] as usize
+    NameNumber(slots[base + class.0] as usize)
+}
+
+pub fn qname_number(qslots: &[u16; SLOTS], base: usize, class: QnameNumber) -> QnameNumber
+    requires { ⌜ (1 ≤ class .0) × (base + class .0 < slotCount) × Low lowNames (now qslots) ⌝ }
+    ensures { λ r. ⌜ r .0 ≡ numberIn (now (qslots .entry)) base (class .0) ⌝ }
+{
+    QnameNumber(qslots[base + class.0] as usize)
 }
 
 // Gives a class the next number, and puts it on the trail.
-pub fn mark(slots: &mut [u16; SLOTS], base: usize, class: usize)
+fn mark(slots: &mut [u16; SLOTS], base: usize, class: usize)
     requires { ⌜ (class ≤ nameRows) × (base + region ≤ slotCount) × Low lowNames (now slots) ⌝ }
     ensures { λ _. ⌜ now (slots .exit) ≡ marked (now (slots .entry)) base class ⌝ }
 {
@@ -61,6 +69,20 @@ pub fn mark(slots: &mut [u16; SLOTS], base: usize, class: usize)
     slots[base + class] = count;
     slots[base + CLASSES] = class as u16;
     slots[base + CLASSES + class] = last;
+}
+
+pub fn mark_name(slots: &mut [u16; SLOTS], base: usize, class: NameNumber)
+    requires { ⌜ (class .0 ≤ nameRows) × (base + region ≤ slotCount) × Low lowNames (now slots) ⌝ }
+    ensures { λ _. ⌜ now (slots .exit) ≡ marked (now (slots .entry)) base (class .0) ⌝ }
+{
+    mark(slots, base, class.0);
+}
+
+pub fn mark_qname(qslots: &mut [u16; SLOTS], base: usize, class: QnameNumber)
+    requires { ⌜ (class .0 ≤ qnameRows) × (base + region ≤ slotCount) × Low lowNames (now qslots) ⌝ }
+    ensures { λ _. ⌜ now (qslots .exit) ≡ marked (now (qslots .entry)) base (class .0) ⌝ }
+{
+    mark(qslots, base, class.0);
 }
 
 // A nested document begins with nothing defined: follows the trail, so that only what was defined costs work.
