@@ -5,7 +5,7 @@
 # Afterwards the register holds an address of the stack, which nothing in the source has asked for. So every way from the loop has to
 # write the register before it reads it. A way on which it is read first reads what the loop has destroyed: that is the fault.
 # Ways are followed over jumps. A call ends one, since the register is not kept over calls; so does a jump out of the function. The
-# targets of a jump through a table are not known here: any instruction that begins a block may follow.
+# targets of a jump through a table are not known here: any instruction that begins a block may follow, but for the loop itself.
 #
 # Status 1 where something was found, where a probe has a form not known here, or where there was no probe at all to look at.
 
@@ -50,7 +50,7 @@ function visit(i, low) {
 
 function jump(i, low,    k) {
     if (args[i] ~ /^\*/) {
-        for (k in begins) visit(k + 0, low)
+        for (k in begins) if (k != loop) visit(k + 0, low)
     } else if (!(i in outside) && (target[i] in index_of)) {
         visit(index_of[target[i]], low)
     }
@@ -85,6 +85,7 @@ function probe(i,    n) {
     sub(/,.*/, "", reg)
     delete seen
     most_todo = 0
+    loop = index_of[target[i]]
     visit(i + 1, 0)
     for (n = 1; n <= most_todo; n++) {
         if (follow(todo[n], lows[n])) {
@@ -110,7 +111,13 @@ function end_of_function(    i, k) {
 }
 
 /:     file format / { end_of_function(); file = $0; sub(/:     file format .*/, "", file); next }
-/^[0-9a-f]+ <.*>:$/ { end_of_function(); name_of_function = $0; sub(/^[0-9a-f]+ </, "", name_of_function); sub(/>:$/, "", name_of_function); next }
+/^[0-9a-f]+ <.*>:$/ {
+    end_of_function()
+    name_of_function = $0
+    sub(/^[0-9a-f]+ </, "", name_of_function)
+    sub(/>:$/, "", name_of_function)
+    next
+}
 # a jump that the linker is to complete leaves the function
 /^\t+[0-9a-f]+: R_X86_64_/ { if (op[count] ~ /^j/) outside[count] = 1; next }
 /^ *[0-9a-f]+:\t/ {
