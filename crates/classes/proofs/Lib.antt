@@ -1,4 +1,4 @@
 pub mod Classes
 pub mod Keys
 pub mod FirstValues
-pub mod Chain
+pub mod Trees

@@ -1,7 +1,7 @@
 -- Serves the code. Rows with equal texts have one class: the number of the first row with that text, and 0 for the empty text.
 -- So texts are compared once for each table, and classes afterwards.
-use Prim.Native.Nat.{ℕ, _+_, _*_, _%_}
-use mathlib.Core.List.{List, [], _∷_, map}
+use Prim.Native.Nat.{ℕ, _*_}
+use mathlib.Core.List.{List, map}
 use Rattle.sequences.specs.Lists.{part}
 use Rattle.machine.specs.Machine.{NameRow, QnameRow, nameText}
 use Rattle.form.specs.Canonical.{Triple, triple, numberOf, qnumberOf}
@@ -27,18 +27,3 @@ triplesOf doc names rows = map (tripleOf doc names) rows
 -- the class of each row of qnames
 unfoldable pub qnameClasses : List ℕ → List NameRow → List QnameRow → List ℕ
 qnameClasses doc names rows = map (qnumberOf (triplesOf doc names rows)) (triplesOf doc names rows)
-
--- what a byte's place counts in a hash, and the hashes
-abbrev pub hashFactor : ℕ
-hashFactor = 31
-
-abbrev pub hashWord : ℕ
-hashWord = 4294967296
-
--- a hash of some bytes, folded from the left: unequal hashes mean unequal texts
-abbrev pub textHashFrom : ℕ → List ℕ → ℕ
-textHashFrom h [] = h
-textHashFrom h (b ∷ l) = textHashFrom ((h * hashFactor + b) % hashWord) l
-
-abbrev pub textHash : List ℕ → ℕ
-textHash l = textHashFrom 0 l

@@ -1,17 +1,12 @@
--- Serves the code. What the functions of the search hand to each other: numbers of a table, what a row refers to, slots and the
--- chains of rows with equal slots, and keys of qnames.
-use Prim.Native.Nat.{ℕ, zero, suc, _+_, _*_, _%_, _≤_, _<_}
-use mathlib.Core.Path.{_≡_}
+-- Serves the code. What the functions of the search hand to each other: numbers of a table, what a row refers to, and keys of
+-- qnames.
+use Prim.Native.Nat.{ℕ, zero, suc, _+_, _*_, _≤_}
 use mathlib.Core.List.{List}
 use lib.ListN.{getD}
 use Rattle.machine.specs.Machine.{NameRow, nameRow}
-use Rattle.classes.specs.Classes.{rowText, textHash}
+use Rattle.classes.specs.Classes.{rowText}
 use Rattle.token.specs.Tokens.{nameWidth, qnameWidth, nameRows}
 use Rattle.machine.specs.Tables.{classCount}
-
--- the slots of the hash table, a prime number
-abbrev pub hashSlots : ℕ
-hashSlots = 2039
 
 -- row k of a table of names, from 0, and its text
 abbrev pub nameAt : List ℕ → ℕ → NameRow
@@ -19,21 +14,6 @@ nameAt l k = nameRow (getD l (nameWidth * k) 0) (getD l (nameWidth * k + 1) 0)
 
 abbrev pub rowTextAt : List ℕ → List ℕ → ℕ → List ℕ
 rowTextAt doc names k = rowText doc (nameAt names k)
-
--- the slot of a text
-abbrev pub slotOf : List ℕ → ℕ
-slotOf t = textHash t % hashSlots
-
--- j is the last row before row r at which m is a, or 1,024 where there is none
-pub record Last {A : Type 0} (m : ℕ → A) (a : A) (r j : ℕ) : Type 0 where
-  pub within : j ≤ nameRows
-  pub before : j < nameRows → j < r
-  pub hits : j < nameRows → m j ≡ a
-  pub latest : (k : ℕ) → k < r → m k ≡ a → (j < nameRows) × (k ≤ j)
-
--- for each of the first n rows the last row before it in its slot
-pub record Chained (slot : ℕ → ℕ) (n : ℕ) (chain : List ℕ) : Type 0 where
-  pub linked : (k : ℕ) → k < n → Last slot (slot k) k (getD chain k 0)
 
 -- the class of row x of names, from 1; row 0 is the empty name
 abbrev pub classAt : List ℕ → ℕ → ℕ

@@ -1,20 +1,24 @@
-// Rows with equal texts have one class. What the searches over names and over qnames share: a row's class, and the chains of rows with
-// equal slots.
+// Rows with equal texts have one class. What the searches over names and over qnames share: a row's class, and the tree in which the
+// first row of each text stands. Its place is found by a hash: first the slot, then at each row on the way a bit of the hash, from the
+// lowest on. So a row with another hash than all others is at most as deep as the hash has bits, whatever its slot.
 ghost use mathlib.Core.Path.{_≡_};
 ghost use mathlib.Core.Bool.{cond};
-ghost use Prim.Native.Nat.{_≤_, _<_};
+ghost use Prim.Native.Nat.{_≤_, _<_, min};
 ghost use lib.ListN.{length, getD, set};
 ghost use lib.Dec.{ltb};
-ghost use Rattle.classes.specs.Search.{classAt, Keyable, hashSlots};
+ghost use Rattle.classes.specs.Search.{classAt, Keyable};
+ghost use Rattle.classes.specs.Tree.{treePlaces};
 ghost use Rattle.token.specs.Tokens.{nameRows};
 
 // The classes: 0 for the empty text, and the number of a row.
 pub const CLASSES: u32 = 1025;
 
-// The slots of the hash table, a prime number.
+// The slots of the tree, a prime number, and its places: two more for each row.
 pub const SLOTS: usize = 2039;
 
-// No row, in a slot or a chain.
+pub const PLACES: usize = SLOTS + 2 * token::NAME_ROWS;
+
+// No row, at a place.
 pub const NO_ROW: u16 = token::NAME_ROWS as u16;
 
 // The class of row `j`, or `own` where `j` is no row.
@@ -27,14 +31,13 @@ pub fn class_or(classes: &[u32; token::NAME_ROWS], j: usize, own: u32) -> u32
     own
 }
 
-// Puts row `r` at the front of slot `s`: the row that was there is the one before it.
-pub fn put_row(slots: &mut [u16; SLOTS], chain: &mut [u16; token::NAME_ROWS], s: usize, r: usize)
-    requires { ⌜ (s < hashSlots) × (r < nameRows) ⌝ }
-    ensures { λ _. ⌜ (now (slots .exit) ≡ set (now (slots .entry)) s r)
-        × (now (chain .exit) ≡ set (now (chain .entry)) r (getD (now (slots .entry)) s 0)) ⌝ }
+// Puts row `r` at place `p` of the tree, where no earlier row is there.
+pub fn put_row(tree: &mut [u16; PLACES], p: usize, r: usize)
+    requires { ⌜ (p < treePlaces) × (r < nameRows) × (getD (now tree) p 0 ≤ nameRows) ⌝ }
+    ensures { λ _. ⌜ now (tree .exit) ≡ set (now (tree .entry)) p (min (getD (now (tree .entry)) p 0) r) ⌝ }
 {
-    chain[r] = slots[s];
-    slots[s] = r as u16;
+    let j = tree[p] as usize;
+    tree[p] = slices::least(j, r) as u16;
 }
 
 // The class of a row, counted from 1; row 0 is the empty name.

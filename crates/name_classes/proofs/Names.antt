@@ -1,13 +1,13 @@
--- The slots, chains and classes of the rows of names, and the loop that fills them. Assumes nothing.
-use Prim.Native.Nat.{ℕ, suc, _+_, _*_, _%_, _≤_, _<_}
-use mathlib.Core.Path.{_≡_, refl, ap, sym, _∙_}
-use mathlib.Core.Bool.{Bool, true, false, cond}
+-- The tree, hashes and classes of the rows of names, and the loop that fills them. Assumes nothing.
+use Prim.Native.Nat.{ℕ, suc, _+_, _-_, _*_, _≤_, _<_, min}
+use mathlib.Core.Path.{_≡_, ap, sym, _∙_}
+use mathlib.Core.Bool.{true, false, cond}
 use mathlib.Core.Option.{some}
 use mathlib.Core.List.{List}
 use native.Mathlib.Omega.{arith}
 use native.Mathlib.Numerals.{add-one}
 use lib.Dec.{eqb, ltb}
-use lib.ListN.{length, getD, getElem?, set}
+use lib.ListN.{length, getD, getElem?, set, take, drop}
 use borrow.Author.Tests.{eqb-true, eqb-false}
 use Rattle.sequences.specs.Lists.{part, same}
 use Rattle.sequences.specs.Arrays.{Front}
@@ -17,36 +17,21 @@ use Rattle.machine.specs.Tables.{nameRowsIn, NamesInside}
 use Rattle.machine.proofs.Tables.{name-row-at, length-name-rows}
 use Rattle.form.specs.Canonical.{numberOf}
 use Rattle.form.proofs.Places.{tells-text}
-use Rattle.classes.specs.Classes.{textHash, textsOf, nameClasses}
-use Rattle.classes.specs.Search.{rowTextAt, slotOf, Last, Chained}
+use Rattle.classes.specs.Classes.{textsOf, nameClasses}
+use Rattle.classes.specs.Search.{rowTextAt}
+use Rattle.classes.specs.Tree.{Tree, Spot}
 use Rattle.classes.proofs.Classes.{place-own, number-some, number-empty, texts-at, name-class-at, length-classes}
 use Rattle.classes.proofs.FirstValues.{FirstValues, values-none, values-next, values-front}
-use Rattle.classes.proofs.Chain.{last-as, Slotted, slotted-none, slotted-next, class-chosen}
+use Rattle.classes.proofs.Trees.{tree-none, tree-next, class-chosen}
+use Rattle.name_classes.specs.Texts.{textHash}
 
 -- the rows up to row r
 pub table-to : {doc names : List ℕ} {count r : ℕ} → NamesInside doc names count → r < count → NamesInside doc names (r + 1)
 table-to x l = record { few = omega arith; long = omega arith; short = x .short; inside = λ k h. x .inside k (omega arith) }
 
--- the slot of row r, of which the place and the units are read
-pub slot-is : (doc names : List ℕ) (r x y h : ℕ) → h ≡ textHash (part doc x (2 * y)) → x ≡ getD names (2 * r) 0 → y ≡ getD names (2 * r + 1) 0
-    → (h % 2039 ≡ slotOf (rowTextAt doc names r)) × (h % 2039 < 2039)
-slot-is doc names r x y h e i j = let t : h ≡ textHash (rowTextAt doc names r) = e ∙ rw (i, j) in (rw t, omega arith)
-
--- row j compared with row r, of which the place and the units are read
-module _ (doc names : List ℕ) (r at units : ℕ) (ep : at ≡ getD names (2 * r) 0) (eu : units ≡ getD names (2 * r + 1) 0) (j : ℕ) (b : Bool)
-    (e : b ≡ same (rowTextAt doc names j) (part doc at (2 * units))) where
-  compared : b ≡ same (rowTextAt doc names j) (rowTextAt doc names r)
-  compared = e ∙ rw (ep, eu)
-
-  pub name-hit : b ≡ true → rowTextAt doc names j ≡ rowTextAt doc names r
-  name-hit t = tells-text .equal _ _ (sym compared ∙ t)
-
-  pub name-miss : b ≡ false → rowTextAt doc names j ≡ rowTextAt doc names r → ⊥
-  name-miss t q =
-      let s : same (rowTextAt doc names j) (rowTextAt doc names r) ≡ true = rw q (tells-text .itself (rowTextAt doc names r)) in
-      let d = compared in
-      let z : _≡_ {A = ℕ} 0 1 = cc in
-      omega arith
+-- the text of a row, of which the place and the units are read, as a part from a place to a place
+pub text-part : (doc : List ℕ) (x y g₀ g₁ : ℕ) → x ≡ g₀ → y ≡ g₁ → take (x + 2 * y - x) (drop x doc) ≡ part doc g₀ (2 * g₁)
+text-part doc x y g₀ g₁ a b = let i : x + 2 * y - x ≡ 2 * y = omega arith in rw (i, a, b)
 
 module _ (doc names : List ℕ) (count : ℕ) where
   abbrev classFor : ℕ → ℕ
@@ -80,39 +65,35 @@ module _ (doc names : List ℕ) (count : ℕ) where
           let q = place-own same tells-text T (λ k. rowTextAt doc names k) r (λ k h. text-at k (omega arith)) n in
           add-one r ∙ sym (number-some T (rowTextAt doc names r) p ∙ ap suc q)
 
-  -- the rows before r are in their slots and have their classes
-  pub record Made (classes slots chain : List ℕ) (r : ℕ) : Type 0 where
+  -- the rows before r are in the tree, and have their hashes and classes
+  pub record Made (classes tree hashes : List ℕ) (r : ℕ) : Type 0 where
     pub within : r ≤ count
-    pub slotted : Slotted (λ k. slotOf (rowTextAt doc names k)) r slots chain
+    pub treed : Tree textHash (rowTextAt doc names) r tree
+    pub hashed : FirstValues (λ k. textHash (rowTextAt doc names k)) r hashes
     pub classed : FirstValues classFor r classes
 
-  pub made-none : (classes slots chain : List ℕ) → length classes ≡ 1024 → length slots ≡ 2039 → length chain ≡ 1024
-      → ((b : ℕ) → b < 2039 → getD slots b 0 ≡ 1024) → Made classes slots chain 0
-  made-none classes slots chain l h i f = record { within = omega arith; slotted = slotted-none _ slots chain h i f; classed = values-none l }
+  pub made-none : (classes tree hashes : List ℕ) → length classes ≡ 1024 → length tree ≡ 4087 → length hashes ≡ 1024
+      → ((p : ℕ) → p < 4087 → getD tree p 0 ≡ 1024) → Made classes tree hashes 0
+  made-none classes tree hashes l h i f =
+      record { within = omega arith; treed = tree-none _ _ tree h f; hashed = values-none i; classed = values-none l }
 
-  -- what the search for row r asks
-  pub searched : (classes slots chain : List ℕ) (r s : ℕ) → Made classes slots chain r → NamesInside doc names count → r < count
-      → (s ≡ slotOf (rowTextAt doc names r)) × (s < 2039)
-      → NamesInside doc names (r + 1) × Chained (λ k. slotOf (rowTextAt doc names k)) r chain
-      × Last (λ k. slotOf (rowTextAt doc names k)) (slotOf (rowTextAt doc names r)) r (getD slots s 0)
-  searched classes slots chain r s x t l e = (table-to t l, x .slotted .chained, last-as (λ k h. refl) (e .0) (x .slotted .heads s (e .1)))
-
-  pub made-next : (classes slots chain slots′ chain′ : List ℕ) (r s j own c : ℕ) → Made classes slots chain r → NamesInside doc names count → r < count
-      → (s ≡ slotOf (rowTextAt doc names r)) × (s < 2039) → Last (rowTextAt doc names) (rowTextAt doc names r) r j
-      → own ≡ cond (eqb (getD names (2 * r + 1) 0) 0) 0 (r + 1) → c ≡ cond (ltb j 1024) (getD classes j 0) own
-      → (slots′ ≡ set slots s r) × (chain′ ≡ set chain r (getD slots s 0)) → Made (set classes r c) slots′ chain′ (r + 1)
-  made-next classes slots chain slots′ chain′ r s j own c x t l e y o i put =
+  pub made-next : (classes tree hashes tree′ : List ℕ) (r h p own c : ℕ) → Made classes tree hashes r → NamesInside doc names count → r < count
+      → h ≡ textHash (rowTextAt doc names r) → Spot textHash (rowTextAt doc names) r tree p
+      → own ≡ cond (eqb (getD names (2 * r + 1) 0) 0) 0 (r + 1) → c ≡ cond (ltb (getD tree p 0) 1024) (getD classes (getD tree p 0) 0) own
+      → tree′ ≡ set tree p (min (getD tree p 0) r) → Made (set classes r c) tree′ (set hashes r h) (r + 1)
+  made-next classes tree hashes tree′ r h p own c x t l e s o i n =
       let same : (k : ℕ) → k < r → rowTextAt doc names k ≡ rowTextAt doc names r → classFor k ≡ classFor r =
       λ k h q. class-at k (omega arith) ∙ ap (numberOf (textsOf doc (nameRowsIn count names))) q ∙ sym (class-at r l) in
       let b : r < 1024 = omega (arith, t .few) in
       record {
         within = omega arith;
-        slotted = slotted-next _ r s (x .slotted) b (e .0) (e .1) put;
-        classed = values-next c (x .classed) b (class-chosen j own c y (x .classed) same (name-own r own t l o) i);
+        treed = rw n (tree-next (x .treed) p s b);
+        hashed = values-next h (x .hashed) b e;
+        classed = values-next c (x .classed) b (class-chosen (x .treed) p s b own c (x .classed) same (name-own r own t l o) i);
       }
 
-  pub made-all : (classes slots chain : List ℕ) (r : ℕ) → Made classes slots chain r → count ≤ r → count ≤ 1024
+  pub made-all : (classes tree hashes : List ℕ) (r : ℕ) → Made classes tree hashes r → count ≤ r → count ≤ 1024
       → Front (nameClasses doc (nameRowsIn count names)) classes × (length classes ≡ 1024)
-  made-all classes slots chain r x h b =
+  made-all classes tree hashes r x h b =
       let n = length-classes doc (nameRowsIn count names) ∙ length-name-rows count names in
       (values-front _ (x .classed) (omega (arith, n)) (omega (arith, x .within)), x .classed .long)

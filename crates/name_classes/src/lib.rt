@@ -1,88 +1,95 @@
-// Classes of rows of names with equal texts: texts are compared here, once for a table. A row is compared with the earlier rows of its
-// slot of a hash table only, so the work is about linear in the rows; the classes do not depend on the hash.
+// Classes of rows of names with equal texts: texts are compared here, once for a table, and only where their hashes are equal. The
+// classes do not depend on the hash.
 ghost use mathlib.Core.Path.{_≡_};
 ghost use mathlib.Core.Bool.{cond};
-ghost use Prim.Native.Nat.{_+_, _*_, _%_, _≤_, _<_};
+ghost use Prim.Native.Nat.{_+_, _*_, _≤_, _<_};
 ghost use lib.ListN.{length, getD};
 ghost use lib.Dec.{eqb};
-ghost use Rattle.sequences.specs.Lists.{part, same};
+ghost use Rattle.sequences.specs.Lists.{same};
 ghost use Rattle.sequences.specs.Arrays.{Front, Every};
 ghost use Rattle.machine.specs.Facts.{NameFits};
 ghost use Rattle.machine.specs.Tables.{nameRowsIn, NamesInside};
-ghost use Rattle.classes.specs.Classes.{nameClasses, textHash};
-ghost use Rattle.classes.specs.Search.{rowTextAt, slotOf, Last, Chained, hashSlots};
+ghost use Rattle.classes.specs.Classes.{nameClasses};
+ghost use Rattle.classes.specs.Search.{rowTextAt};
+ghost use Rattle.classes.specs.Tree.{FirstAre, Tree, Spot};
 ghost use Rattle.token.specs.Tokens.{nameWidth, longest, nameRows};
+ghost use Rattle.name_classes.specs.Texts.{textHash};
 
 // The slots, as a hash has them.
 const MODULUS: u64 = classes::SLOTS as u64;
 
-// What a byte's place counts in the hash, and the hashes.
-const FACTOR: u64 = 31;
-
-const WORD: u64 = 4294967296;
-
-// Equal texts have equal hashes.
-fn hash_of(doc: &[u8], place: usize, size: usize) -> u64
-    requires { ⌜ (place + size ≤ length (now doc)) × (length (now doc) ≤ longest) ⌝ }
-    ensures { λ r. ⌜ r ≡ textHash (part (now (doc .entry)) place size) ⌝ }
+// The text of row `k` of names.
+fn row_text<'a>(doc: &'a [u8], names: &[u32], k: usize, n: usize) -> &'a [u8]
+    requires { ⌜ NamesInside (now doc) (now names) n × (k < n) ⌝ }
+    ensures { λ t. ⌜ now t ≡ rowTextAt (now (doc .entry)) (now (names .entry)) k ⌝ }
 {
-    let mut h: u64 = 0;
-    let mut i: usize = 0;
-    while i < size {
-        h = (h * FACTOR + doc[place + i] as u64) % WORD;
-        i += 1;
+    let from = slices::cell(names, token::NAME_WIDTH * k);
+    let to = from + 2 * slices::cell(names, token::NAME_WIDTH * k + 1);
+    &doc[from..to]
+}
+
+// The hash of a text, unit by unit.
+fn hash_of(text: &[u8]) -> u64
+    ensures { λ h. ⌜ h ≡ textHash (now (text .entry)) ⌝ }
+{
+    let n = text.len() / 2;
+    let mut h = hash::SEED;
+    let mut k = 0;
+    while k < n {
+        let unit = slices::wide32(text[2 * k]) + 256 * slices::wide32(text[2 * k + 1]);
+        h = hash::mix(h, unit);
+        k += 1;
     }
     h
 }
 
-// Whether row `j` of names has this text.
-fn same_row(doc: &[u8], names: &[u32], j: usize, place: usize, units: usize) -> bool
-    requires { ⌜ (j < nameRows) × (nameWidth * j + nameWidth ≤ length (now names)) × (length (now doc) ≤ longest) × (place + 2 * units ≤ length (now doc))
-        × (getD (now names) (nameWidth * j) 0 + 2 * getD (now names) (nameWidth * j + 1) 0 ≤ length (now doc)) ⌝ }
-    ensures { λ r. ⌜ r ≡ same (rowTextAt (now (doc .entry)) (now (names .entry)) j) (part (now (doc .entry)) place (2 * units)) ⌝ }
+// Whether row `j` of names has the text of row `r`, whose hash is `h`. The hashes are compared first: most unequal texts differ there.
+fn same_row(
+    doc: &[u8],
+    names: &[u32],
+    hashes: &[u64; token::NAME_ROWS],
+    j: usize,
+    r: usize,
+    h: u64,
+) -> bool
+    requires { ⌜ NamesInside (now doc) (now names) (r + 1) × (j < r) × FirstAre (λ k. textHash (rowTextAt (now doc) (now names) k)) r (now hashes)
+        × (h ≡ textHash (rowTextAt (now doc) (now names) r)) ⌝ }
+    ensures { λ b. ⌜ b ≡ same (rowTextAt (now (doc .entry)) (now (names .entry)) j) (rowTextAt (now (doc .entry)) (now (names .entry)) r) ⌝ }
 {
-    let from = slices::cell(names, token::NAME_WIDTH * j);
-    let to = from + 2 * slices::cell(names, token::NAME_WIDTH * j + 1);
-    let end = place + 2 * units;
-    slices::same_bytes(&doc[from..to], &doc[place..end])
+    if hashes[j] != h {
+        return false;
+    }
+    slices::same_bytes(
+        row_text(doc, names, j, r + 1),
+        row_text(doc, names, r, r + 1),
+    )
 }
 
-// The slot of row `r` of names.
-fn slot_of(doc: &[u8], names: &[u32], r: usize) -> usize
-    requires { ⌜ NamesInside (now doc) (now names) (r + 1) ⌝ }
-    ensures { λ s. ⌜ (s ≡ slotOf (rowTextAt (now (doc .entry)) (now (names .entry)) r)) × (s < hashSlots) ⌝ }
-{
-    let hash = hash_of(
-        doc,
-        slices::cell(names, token::NAME_WIDTH * r),
-        2 * slices::cell(names, token::NAME_WIDTH * r + 1),
-    );
-    (hash % MODULUS) as usize
-}
-
-// The last row before row `r` of names with its text, along the chain of its slot from row `first` on; `NAME_ROWS` where there is none.
+// The place of the tree for the text of row `r` of names, whose hash is `h`: where an earlier row with that text stands, or none.
 fn find_name(
     doc: &[u8],
     names: &[u32],
-    chain: &[u16; token::NAME_ROWS],
-    first: usize,
+    hashes: &[u64; token::NAME_ROWS],
+    tree: &[u16; classes::PLACES],
     r: usize,
+    h: u64,
 ) -> usize
-    requires { ⌜ NamesInside (now doc) (now names) (r + 1)
-        × Chained (λ k. slotOf (rowTextAt (now doc) (now names) k)) r (now chain)
-        × Last (λ k. slotOf (rowTextAt (now doc) (now names) k)) (slotOf (rowTextAt (now doc) (now names) r)) r first ⌝ }
-    ensures { λ j. ⌜ Last (rowTextAt (now (doc .entry)) (now (names .entry))) (rowTextAt (now (doc .entry)) (now (names .entry)) r) r j ⌝ }
+    requires { ⌜ NamesInside (now doc) (now names) (r + 1) × FirstAre (λ k. textHash (rowTextAt (now doc) (now names) k)) r (now hashes)
+        × Tree textHash (rowTextAt (now doc) (now names)) r (now tree) × (h ≡ textHash (rowTextAt (now doc) (now names) r)) ⌝ }
+    ensures { λ p. ⌜ Spot textHash (rowTextAt (now (doc .entry)) (now (names .entry))) r (now (tree .entry)) p ⌝ }
 {
-    let place = slices::cell(names, token::NAME_WIDTH * r);
-    let units = slices::cell(names, token::NAME_WIDTH * r + 1);
-    let mut j = first;
+    let mut bits = h;
+    let mut p = (h % MODULUS) as usize;
+    let mut j = tree[p] as usize;
     while j < token::NAME_ROWS {
-        if same_row(doc, names, j, place, units) {
-            return j;
+        if same_row(doc, names, hashes, j, r, h) {
+            return p;
         }
-        j = chain[j] as usize;
+        p = classes::SLOTS + 2 * j + (bits % 2) as usize;
+        bits = bits / 2;
+        j = tree[p] as usize;
     }
-    j
+    p
 }
 
 // The class of row `r` of names where no earlier row has its text: 0 for the empty text.
@@ -103,18 +110,19 @@ pub fn name_classes(doc: &[u8], names: &[u32], count: usize, classes: &mut [u32;
     ensures { λ _. ⌜ Front (nameClasses (now (doc .entry)) (nameRowsIn count (now (names .entry)))) (now (classes .exit))
         × (length (now (classes .exit)) ≡ nameRows) ⌝ }
 {
-    // The last row of each slot, or none, and for each row the one before it in its slot, written before it is read. A first
-    // value whose bytes differ is stored by vector instructions, not by memset.
-    let mut slots = [classes::NO_ROW; classes::SLOTS];
-    let mut chain = [1u16; token::NAME_ROWS];
+    // The rows of the tree, and the hashes of the rows passed, each written before it is read. A first value whose bytes differ
+    // is stored by vector instructions, not by memset.
+    let mut tree = [classes::NO_ROW; classes::PLACES];
+    let mut hashes = [1u64; token::NAME_ROWS];
     let mut r: usize = 0;
     while r < count {
-        let s = slot_of(doc, names, r);
-        let first = slots[s] as usize;
-        let j = find_name(doc, names, &chain, first, r);
+        let h = hash_of(row_text(doc, names, r, count));
+        let p = find_name(doc, names, &hashes, &tree, r, h);
+        let j = tree[p] as usize;
         let own = own_class(names, r);
         classes[r] = classes::class_or(classes, j, own);
-        classes::put_row(&mut slots, &mut chain, s, r);
+        hashes[r] = h;
+        classes::put_row(&mut tree, p, r);
         r += 1;
     }
 }

@@ -1,5 +1,5 @@
 -- Rows of qnames with equal keys have equal texts; and the loop that fills the classes. Assumes nothing.
-use Prim.Native.Nat.{ℕ, zero, suc, _+_, _*_, _%_, _≤_, _<_}
+use Prim.Native.Nat.{ℕ, zero, suc, _+_, _*_, _≤_, _<_, min}
 use mathlib.Core.Path.{_≡_, refl, ap, sym, _∙_}
 use mathlib.Core.Bool.{cond}
 use mathlib.Core.Option.{some}
@@ -17,11 +17,12 @@ use Rattle.machine.proofs.Tables.{length-name-rows, qname-row-at, length-qname-
 use Rattle.form.specs.Canonical.{Triple, sameTriple, numberOf, qnumberOf}
 use Rattle.form.proofs.Places.{tells-triple}
 use Rattle.classes.specs.Classes.{textsOf, nameClasses, tripleOf, triplesOf, qnameClasses}
-use Rattle.classes.specs.Search.{Last, Chained, classAt, keyOf, Keyable, keyAt}
+use Rattle.classes.specs.Search.{classAt, keyOf, Keyable, keyAt}
+use Rattle.classes.specs.Tree.{Tree, Spot}
 use Rattle.classes.proofs.Classes.{place-own, same-class, class-text, name-class-at, name-text-at, length-classes, triples-at, qname-class-at, length-qclasses}
 use Rattle.classes.proofs.Keys.{key-apart}
 use Rattle.classes.proofs.FirstValues.{FirstValues, values-none, values-next, values-front}
-use Rattle.classes.proofs.Chain.{last-as, chained-as, Slotted, slotted-none, slotted-next, class-chosen}
+use Rattle.classes.proofs.Trees.{tree-none, tree-next, class-chosen}
 use Rattle.token.specs.Tokens.{qnameWidth}
 
 module _ (doc : List ℕ) (N : List NameRow) (classes : List ℕ) (few : length N ≤ 1024) (front : Front (nameClasses doc N) classes) where
@@ -83,42 +84,23 @@ module _ (doc names : List ℕ) (rows : ℕ) (qnames : List ℕ) (count : ℕ) (
   abbrev classFor : ℕ → ℕ
   classFor k = getD (qnameClasses doc (nameRowsIn rows names) (qnameRowsIn count qnames)) k 0
 
-  -- the keys of the rows before r are stored, and the rows are in their slots and have their classes
-  pub record Keyed (qclasses slots chain keys : List ℕ) (r : ℕ) : Type 0 where
+  -- the keys of the rows before r are stored, and the rows are in the tree and have their classes
+  pub record Keyed (qclasses tree keys : List ℕ) (r : ℕ) : Type 0 where
     pub within : r ≤ count
     pub keyed : FirstValues (keyAt qnames classes) r keys
-    pub slotted : Slotted (λ k. keyAt qnames classes k % 2039) r slots chain
+    pub treed : Tree (λ x. x) (keyAt qnames classes) r tree
     pub classed : FirstValues classFor r qclasses
 
-  pub keyed-none : (qclasses slots chain keys : List ℕ) → length qclasses ≡ 1024 → length slots ≡ 2039 → length chain ≡ 1024 → length keys ≡ 1024
-      → ((b : ℕ) → b < 2039 → getD slots b 0 ≡ 1024) → Keyed qclasses slots chain keys 0
-  keyed-none qclasses slots chain keys l h i m f =
-      record { within = omega arith; keyed = values-none m; slotted = slotted-none _ slots chain h i f; classed = values-none l }
+  pub keyed-none : (qclasses tree keys : List ℕ) → length qclasses ≡ 1024 → length tree ≡ 4087 → length keys ≡ 1024
+      → ((p : ℕ) → p < 4087 → getD tree p 0 ≡ 1024) → Keyed qclasses tree keys 0
+  keyed-none qclasses tree keys l h i f =
+      record { within = omega arith; keyed = values-none i; treed = tree-none _ _ tree h f; classed = values-none l }
 
-  pub keyed-all : (qclasses slots chain keys : List ℕ) (r : ℕ) → Keyed qclasses slots chain keys r → count ≤ r → count ≤ 1024
+  pub keyed-all : (qclasses tree keys : List ℕ) (r : ℕ) → Keyed qclasses tree keys r → count ≤ r → count ≤ 1024
       → Front (qnameClasses doc (nameRowsIn rows names) (qnameRowsIn count qnames)) qclasses × (length qclasses ≡ 1024)
-  keyed-all qclasses slots chain keys r x h b =
+  keyed-all qclasses tree keys r x h b =
       let n = length-qclasses doc (nameRowsIn rows names) (qnameRowsIn count qnames) ∙ length-qname-rows count qnames in
       (values-front _ (x .classed) (omega (arith, n)) (omega (arith, x .within)), x .classed .long)
-
-  -- the keys of the rows up to r stand in the array that is searched
-  module _ (qclasses slots chain keys : List ℕ) (r key : ℕ) (x : Keyed qclasses slots chain keys r) (b : r < 1024) (e : key ≡ keyAt qnames classes r) where
-    stored : FirstValues (keyAt qnames classes) (r + 1) (set keys r key)
-    stored = values-next key (x .keyed) b e
-
-    stored-at : (k : ℕ) → k ≤ r → getD (set keys r key) k 0 ≡ keyAt qnames classes k
-    stored-at k h = stored .are k (omega arith)
-
-    slot-at : (k : ℕ) → k ≤ r → keyAt qnames classes k % 2039 ≡ getD (set keys r key) k 0 % 2039
-    slot-at k h = ap (λ (v : ℕ). v % 2039) (sym (stored-at k h))
-
-    pub searched : (r < 1024) × Chained (λ k. getD (set keys r key) k 0 % 2039) r chain
-        × Last (λ k. getD (set keys r key) k 0 % 2039) (getD (set keys r key) r 0 % 2039) r (getD slots (key % 2039) 0)
-    searched = (
-      b,
-      chained-as (λ k h. slot-at k (omega arith)) (x .slotted .chained),
-      last-as (λ k h. slot-at k (omega arith)) (ap (λ (v : ℕ). v % 2039) e ∙ slot-at r (omega arith)) (x .slotted .heads (key % 2039) (omega arith)),
-    )
 
   module _ (few : rows ≤ 1024) (front : Front (nameClasses doc (nameRowsIn rows names)) classes)
       (fits : Every (QnameFits rows) (qnameRowsIn count qnames)) where
@@ -164,22 +146,19 @@ module _ (doc names : List ℕ) (rows : ℕ) (qnames : List ℕ) (count : ℕ) (
         (λ k h. triple-at k (omega arith)) (λ k h e. n k h (same-key k r (omega arith) l e)) in
         add-one r ∙ sym (class-at r l ∙ ap suc q)
 
-    pub keyed-next : (qclasses slots chain keys slots′ chain′ : List ℕ) (r key j c : ℕ) → Keyed qclasses slots chain keys r → r < count → count ≤ 1024
-        → key ≡ keyAt qnames classes r → Last (λ k. getD (set keys r key) k 0) (getD (set keys r key) r 0) r j
-        → c ≡ cond (ltb j 1024) (getD qclasses j 0) (r + 1)
-        → (slots′ ≡ set slots (key % 2039) r) × (chain′ ≡ set chain r (getD slots (key % 2039) 0))
-        → Keyed (set qclasses r c) slots′ chain′ (set keys r key) (r + 1)
-    keyed-next qclasses slots chain keys slots′ chain′ r key j c x l few-keys e y i put =
+    pub keyed-next : (qclasses tree keys tree′ : List ℕ) (r key p c : ℕ) → Keyed qclasses tree keys r → r < count → count ≤ 1024
+        → key ≡ keyAt qnames classes r → Spot (λ x. x) (keyAt qnames classes) r tree p
+        → c ≡ cond (ltb (getD tree p 0) 1024) (getD qclasses (getD tree p 0) 0) (r + 1)
+        → tree′ ≡ set tree p (min (getD tree p 0) r) → Keyed (set qclasses r c) tree′ (set keys r key) (r + 1)
+    keyed-next qclasses tree keys tree′ r key p c x l few-keys e s i n =
         let b : r < 1024 = omega arith in
-        let at = stored-at qclasses slots chain keys r key x b e in
-        let found : Last (keyAt qnames classes) (keyAt qnames classes r) r j = last-as (λ k h. at k (omega arith)) (at r (omega arith)) y in
         let same : (k : ℕ) → k < r → keyAt qnames classes k ≡ keyAt qnames classes r → classFor k ≡ classFor r =
         λ k h q. class-at k (omega arith)
         ∙ ap (qnumberOf (triplesOf doc (nameRowsIn rows names) (qnameRowsIn count qnames))) (key-same k r (omega arith) l q)
         ∙ sym (class-at r l) in
         record {
           within = omega arith;
-          keyed = stored qclasses slots chain keys r key x b e;
-          slotted = slotted-next _ r (key % 2039) (x .slotted) b (ap (λ (v : ℕ). v % 2039) e) (omega arith) put;
-          classed = values-next c (x .classed) b (class-chosen j (r + 1) c found (x .classed) same (key-own r l) i);
+          keyed = values-next key (x .keyed) b e;
+          treed = rw n (tree-next (x .treed) p s b);
+          classed = values-next c (x .classed) b (class-chosen (x .treed) p s b (r + 1) c (x .classed) same (key-own r l) i);
         }

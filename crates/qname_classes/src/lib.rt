@@ -1,12 +1,13 @@
 // Classes of rows of qnames with equal texts, by the classes of their names: no text is compared.
 ghost use mathlib.Core.Path.{_≡_};
-ghost use Prim.Native.Nat.{_+_, _*_, _%_, _≤_, _<_};
+ghost use Prim.Native.Nat.{_+_, _*_, _≤_, _<_};
 ghost use lib.ListN.{length, getD};
 ghost use Rattle.sequences.specs.Arrays.{Front, Every};
 ghost use Rattle.machine.specs.Facts.{QnameFits};
 ghost use Rattle.machine.specs.Tables.{nameRowsIn, qnameRowsIn};
 ghost use Rattle.classes.specs.Classes.{nameClasses, qnameClasses};
-ghost use Rattle.classes.specs.Search.{Last, Chained, Keyable, keyAt, hashSlots};
+ghost use Rattle.classes.specs.Search.{Keyable, keyAt};
+ghost use Rattle.classes.specs.Tree.{FirstAre, Tree, Spot};
 ghost use Rattle.token.specs.Tokens.{nameWidth, qnameWidth, nameRows, qnameRows};
 
 // The slots, as a key has them.
@@ -24,26 +25,32 @@ fn key_of(qnames: &[u32], classes: &[u32; token::NAME_ROWS], r: usize) -> u32
     (uri * classes::CLASSES + prefix) * classes::CLASSES + local
 }
 
-// The last place before place `r` that holds its key, along the chain of its slot from place `first` on; `QNAME_ROWS` where there is none.
+// The place of the tree for the key of row `r`: where an earlier row with that key stands, or none. The tables are named in the contract
+// only.
 fn find_key(
+    qnames: &[u32],
+    classes: &[u32; token::NAME_ROWS],
     keys: &[u32; token::QNAME_ROWS],
-    chain: &[u16; token::QNAME_ROWS],
-    first: usize,
+    tree: &[u16; classes::PLACES],
     r: usize,
+    key: u32,
 ) -> usize
-    requires { ⌜ (r < qnameRows) × Chained (λ k. getD (now keys) k 0 % hashSlots) r (now chain)
-        × Last (λ k. getD (now keys) k 0 % hashSlots) (getD (now keys) r 0 % hashSlots) r first ⌝ }
-    ensures { λ j. ⌜ Last (λ k. getD (now (keys .entry)) k 0) (getD (now (keys .entry)) r 0) r j ⌝ }
+    requires { ⌜ (r < qnameRows) × FirstAre (keyAt (now qnames) (now classes)) r (now keys)
+        × Tree (λ x. x) (keyAt (now qnames) (now classes)) r (now tree) × (key ≡ keyAt (now qnames) (now classes) r) ⌝ }
+    ensures { λ p. ⌜ Spot (λ x. x) (keyAt (now (qnames .entry)) (now (classes .entry))) r (now (tree .entry)) p ⌝ }
 {
-    let key = keys[r];
-    let mut j = first;
+    let mut bits = key;
+    let mut p = (key % MODULUS) as usize;
+    let mut j = tree[p] as usize;
     while j < token::QNAME_ROWS {
         if keys[j] == key {
-            return j;
+            return p;
         }
-        j = chain[j] as usize;
+        p = classes::SLOTS + 2 * j + (bits % 2) as usize;
+        bits = bits / 2;
+        j = tree[p] as usize;
     }
-    j
+    p
 }
 
 // The class of each of the first `count` rows of qnames; `classes` are those of the names' rows.
@@ -63,19 +70,17 @@ pub fn qname_classes(
     ensures { λ _. ⌜ Front (qnameClasses (now (doc .entry)) (nameRowsIn rows (now (names .entry))) (qnameRowsIn count (now (qnames .entry)))) (now (qclasses .exit))
         × (length (now (qclasses .exit)) ≡ qnameRows) ⌝ }
 {
-    // as for names; a row's slot is that of its key
-    let mut slots = [classes::NO_ROW; classes::SLOTS];
-    let mut chain = [1u16; token::QNAME_ROWS];
+    // as for names; a key is its own hash
+    let mut tree = [classes::NO_ROW; classes::PLACES];
     let mut keys = [1u32; token::QNAME_ROWS];
     let mut r: usize = 0;
     while r < count {
         let key = key_of(qnames, classes, r);
-        keys[r] = key;
-        let s = (key % MODULUS) as usize;
-        let first = slots[s] as usize;
-        let j = find_key(&keys, &chain, first, r);
+        let p = find_key(qnames, classes, &keys, &tree, r, key);
+        let j = tree[p] as usize;
         qclasses[r] = classes::class_or(qclasses, j, r as u32 + 1);
-        classes::put_row(&mut slots, &mut chain, s, r);
+        keys[r] = key;
+        classes::put_row(&mut tree, p, r);
         r += 1;
     }
 }

@@ -11,7 +11,7 @@ use lib.ListN.{length, getD, length-append, length-map, length-take}
 use borrow.Author.Tests.{eqb-true, eq-eqb, ne-eqb, leb-true, leb-false}
 use Rattle.sequences.specs.Lists.{Bytes, part, unitsOf}
 use Rattle.sequences.specs.Arrays.{none, first}
-use Rattle.sequences.proofs.Units.{bytes-take, bytes-drop}
+use Rattle.sequences.proofs.Units.{bytes-take, bytes-drop, units-long}
 use Rattle.token.specs.Tokens.{classOf, shapeOf}
 use Rattle.token.specs.declared.Class.the-variants as class
 use Rattle.rules.specs.Rules.{lawful}
@@ -33,7 +33,6 @@ use Rattle.marks.specs.Marks.{openingIn, declaredIn, MarksOf}
 use Rattle.render_elements.proofs.Rows.{close-few, is-value}
 use Rattle.symbols.proofs.Rooms.{text-room}
 use Rattle.marks.proofs.MarkLaws.{mark-opening, mark-attribute, mark-declares, mark-counts, mark-qname}
-use Rattle.symbols.proofs.Texts.{units-long}
 use Rattle.render.proofs.Tokens.{value-code, text-there, payload-there}
 use Rattle.render.proofs.Names.{named-row, named-event, pair-both}
 

@@ -1,32 +1,29 @@
--- `name_classes::hash_of` meets its contract. The invariant: the hash of the bytes passed, gone on with over the rest, is the
--- hash of the text. The measure: the bytes that are left. Assumes nothing.
+-- `name_classes::hash_of` meets its contract. The invariant is `Hashing`: the hash of the units passed, gone on with over the rest, is
+-- the hash of the text. The measure: the units that are left. Assumes nothing.
 use borrow.Author.Needs.{needs}
-use Prim.Native.Nat.{_+_, _-_}
-use native.Mathlib.Omega.{arith}
+use Prim.Native.Nat.{_-_}
 use Rattle.name_classes.proofs.Texts.{Hashing, hash-start, hash-next, hash-end}
 use Rattle.name_classes.proofs.hash_of.Statement.{statement}
 use Rattle.name_classes.proofs.hash_of.Tie as tie
 
 abbrev Inv-loop : tie.InvT-loop
-Inv-loop doc place size h₀ i₀ h i = Hashing doc place size h i
+Inv-loop text n h₀ k₀ h k = Hashing text h k
 
 abbrev μ-loop : tie.MeasureT-loop
-μ-loop doc place size h₀ i₀ h i = size - i
+μ-loop text n h₀ k₀ h k = n - k
 
 loop-holds : tie.Need-loop-holds Inv-loop μ-loop
-loop-holds c = hash-start _ _ _
-
-cast-h : tie.Need-cast-h Inv-loop μ-loop
-cast-h c = omega (arith, c .shared-slice-known .given (c .before .before .before .args .place + c .before .before .loop .i))
-
-add-h-2 : tie.Need-add-h-2 Inv-loop μ-loop
-add-h-2 c = omega (arith, c .before .before .loop .inv .low, c .shared-slice-known .given (c .before .before .before .args .place + c .before .before .loop .i))
+loop-holds c = hash-start (c .before .args .text .now)
 
 loop-again : tie.Need-loop-again Inv-loop μ-loop
-loop-again c = hash-next _ _ _ _ _ (c .before .before .before .pre .0) (c .before .before .loop .inv) (c .before .loop-test .taken)
+loop-again c =
+    let test = c .before .before .before .before .before in
+    let turn = test .before in
+    hash-next (turn .before .before .args .text .now) _ _ _ _ (turn .loop .inv) (test .loop-test .taken)
+    (rw (← c .before .before .before .wide32 .ensures .0, ← c .before .wide322 .ensures .0)) (c .mix .ensures)
 
 returns : tie.Need-returns Inv-loop μ-loop
-returns c = hash-end _ _ _ _ _ (c .before .loop .inv) (c .loop-test .left)
+returns c = hash-end (c .before .before .before .args .text .now) _ _ (c .before .loop .inv) (c .loop-test .left)
 
 pub hash-of-spec : {M : Type 1} → statement M
 hash-of-spec =
@@ -37,9 +34,14 @@ hash-of-spec =
     loop-holds
     (λ c. search needs)
     (λ c. search needs)
+    (λ c κs. search needs)
     (λ c. search needs)
-    cast-h
-    add-h-2
+    (λ c. search needs)
+    (λ c. search needs)
+    (λ c κs. search needs)
+    (λ c. search needs)
+    (λ c. search needs)
+    (λ c κs. search needs)
     (λ c. search needs)
     (λ c. search needs)
     loop-again

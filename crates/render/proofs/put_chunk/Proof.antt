@@ -1,6 +1,6 @@
 -- `render::put_chunk` meets its contract. Assumes nothing.
 use Rattle.render_elements.proofs.Rows.{row-as, row-hashed, out-row, out-in, span, part-few}
-use Rattle.symbols.proofs.Texts.{units-long}
+use Rattle.sequences.proofs.Units.{units-long}
 use mathlib.Core.Path.{refl, ap}
 use native.Mathlib.Omega.{arith}
 use Prim.Native.Nat.{_+_, _-_, _*_}

@@ -1,5 +1,6 @@
 -- `symbols::put_payload` meets its contract: one way for each kind of plan. Assumes nothing.
-use Rattle.symbols.proofs.Texts.{units-long, way-none, way-own, way-made, way-left}
+use Rattle.sequences.proofs.Units.{units-long}
+use Rattle.symbols.proofs.Texts.{way-none, way-own, way-made, way-left}
 use Rattle.symbols.proofs.Rooms.{plan-room}
 use Rattle.symbols.proofs.Going.{hashed-as}
 use mathlib.Core.Path.{sym, _∙_}

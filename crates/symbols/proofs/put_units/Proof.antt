@@ -5,7 +5,7 @@ use native.Mathlib.Omega.{arith}
 use lib.ListN.{length, drop, length-set}
 use Rattle.sequences.specs.Lists.{unitsOf}
 use Rattle.symbols.proofs.Going.{Going, go-first, go-step, go-end, go-to}
-use Rattle.symbols.proofs.Texts.{unit-step, unit-end, unit-room}
+use Rattle.sequences.proofs.Units.{unit-step, unit-end, unit-room}
 use borrow.Author.Needs.{needs}
 use Rattle.symbols.proofs.put_units.Statement.{statement}
 use Rattle.symbols.proofs.put_units.Tie as tie
