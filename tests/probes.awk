@@ -110,7 +110,8 @@ function end_of_function(    i, k) {
     count = 0
 }
 
-/:     file format / { end_of_function(); file = $0; sub(/:     file format .*/, "", file); next }
+/^In archive / { end_of_function(); archive = $3 " "; next }
+/:     file format / { end_of_function(); file = archive $0; sub(/:     file format .*/, "", file); next }
 /^[0-9a-f]+ <.*>:$/ {
     end_of_function()
     name_of_function = $0
