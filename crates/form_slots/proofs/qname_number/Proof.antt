@@ -7,11 +7,11 @@ use borrow.Author.Needs.{needs}
 use Rattle.form_slots.proofs.qname_number.Statement.{statement}
 use Rattle.form_slots.proofs.qname_number.Tie as tie
 
-cast-t9 : tie.Need-cast-t9
-cast-t9 c = let entry = c .before .before in omega (arith, entry .pre .2 .each (entry .args .base + entry .args .class .0))
-
 returns : tie.Need-returns
 returns c = row-number _ _ _ (c .before .before .pre .0) refl
+
+cast-t9 : tie.Need-cast-t9
+cast-t9 c = let entry = c .before .before in omega (arith, entry .pre .2 .each (entry .args .base + entry .args .class .0))
 
 pub qname-number-spec : {M : Type 1} → statement M
 qname-number-spec = tie.close (tie.spec (λ c. search needs) (λ c. search needs) (λ c. search needs) cast-t9 returns)
