@@ -1,6 +1,6 @@
 -- References to names and qnames by number, and the header of a document.
 use Prim.Native.Nat.{ℕ, _+_}
-use mathlib.Core.Bool.{cond, _&&_}
+use mathlib.Core.Bool.{Bool, cond, _&&_}
 use mathlib.Core.List.{List}
 use lib.Dec.{leb, ltb}
 use Rattle.token.specs.Tokens.{mb32, notDefined, missing, badHeader}
@@ -26,9 +26,12 @@ unfoldable pub nameAt : ℕ → List ℕ → ℕ → Name
 nameAt known doc at = nameJudged known at (numberAt mb32 doc at)
 
 -- in a document that has `known` qnames: so is qname 0
+abbrev pub definedQname : ℕ → ℕ → Bool
+definedQname known value = leb 1 value && leb value known
+
 abbrev pub qnameJudged : ℕ → ℕ → Number → Qname
 qnameJudged known at (number.Is value next) =
-    cond (leb 1 value && leb value known) (qname.Is (record { 0 = value }) next) (qname.Refused notDefined at)
+    cond (definedQname known value) (qname.Is (record { 0 = value }) next) (qname.Refused notDefined at)
 qnameJudged known at (number.Refused number place) = qname.Refused number place
 
 unfoldable pub qnameAt : ℕ → List ℕ → ℕ → Qname

@@ -9,3 +9,4 @@ pub mod Turns
 pub mod Again
 pub mod Reread
 pub mod Rewriting
+pub mod Examples

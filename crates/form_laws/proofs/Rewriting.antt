@@ -11,10 +11,10 @@ use Rattle.scan.specs.declared.Room.{Room}
 use Rattle.machine.specs.Machine.{EventRow, reading, eventsOf}
 use Rattle.machine.specs.Balance.{Opened, nothingOpen, taken, andThen, check}
 use Rattle.form.specs.Canonical.{none-yet, body, canonical}
-use Rattle.grammar.specs.Grammar.{Point, Depth, Document, document, rowsIn, eventsDerived}
+use Rattle.grammar.specs.Grammar.{Point, Depth, Document, document, Derives, rowsIn, eventsDerived}
 use Rattle.grammar.proofs.Unique.{at-most-one}
-use Rattle.grammar.proofs.Exact.{accepted-derives}
-use Rattle.form_laws.specs.Forms.{eventsRead, formRead, Formed, ReadsAgain}
+use Rattle.grammar.proofs.Exact.{accepted-derives, derived-accepts}
+use Rattle.form_laws.specs.Forms.{eventsRead, formRead, Formed, ReadsAgain, Holds, ReadAlike}
 use Rattle.form_laws.proofs.Lists.{clash}
 use Rattle.form_laws.proofs.Written.{header-at}
 use Rattle.form_laws.proofs.Reread.{reread}
@@ -43,7 +43,7 @@ pub own-form : (doc : List ℕ) (room : Room) → room .names ≤ nameRows → r
 own-form doc room n q F = let r = read-again doc room n q F in rw (r .version-is, r .events-are)
 
 -- an accepted document has the same events and outer version with any tables
-any-room : (doc : List ℕ) (room room′ : Room) → reading doc room .number ≡ accepted → reading doc room′ .number ≡ accepted
+pub any-room : (doc : List ℕ) (room room′ : Room) → reading doc room .number ≡ accepted → reading doc room′ .number ≡ accepted
     → (eventsRead doc room ≡ eventsRead doc room′) × (reading doc room .version ≡ reading doc room′ .version)
 unfolding eventsOf
 any-room doc room room′ a b =
@@ -52,6 +52,34 @@ any-room doc room room′ a b =
     let e = at-most-one doc (x .derived) (x .whole) (y .derived) (y .whole) in
     let rows : rowsIn (reading doc room .final) ≡ rowsIn (reading doc room′ .final) = sym (x .rows-are) ∙ e .1 ∙ y .rows-are in
     (ap (eventsDerived doc) rows, e .0)
+
+-- the tables of an accepted reading hold its rows
+pub held : (doc : List ℕ) (room : Room) → reading doc room .number ≡ accepted → Holds room (reading doc room .final)
+held doc room a =
+    let x = accepted-derives doc room a in
+    record { names-fit = x .names-few; qnames-fit = x .qnames-few; events-fit = x .events-few }
+
+-- what is accepted with some tables is read alike with any that hold its rows
+pub read-any : (doc : List ℕ) (room room′ : Room) → reading doc room .number ≡ accepted → Holds room′ (reading doc room .final) → ReadAlike doc room doc room′
+read-any doc room room′ a h =
+    let x = accepted-derives doc room a in
+    let y : Derives doc room′ (reading doc room .version) (rowsIn (reading doc room .final)) =
+    record {
+      deep = x .deep;
+      end = x .end;
+      derived = x .derived;
+      whole = x .whole;
+      rows-are = x .rows-are;
+      not-long = x .not-long;
+      elements-few = x .elements-few;
+      nested-few = x .nested-few;
+      names-few = h .names-fit;
+      qnames-few = h .qnames-fit;
+      events-few = h .events-fit;
+    } in
+    let b = derived-accepts doc room′ y .number-is in
+    let e = any-room doc room room′ a b in
+    record { number-is = b; version-is = sym (e .1); events-are = sym (e .0) }
 
 -- two forms are equal exactly where the events and the outer versions are
 pub same-forms : (doc doc′ : List ℕ) (room room′ : Room) → room .names ≤ nameRows → room .qnames ≤ qnameRows → room′ .names ≤ nameRows → room′ .qnames ≤ qnameRows

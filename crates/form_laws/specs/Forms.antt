@@ -5,7 +5,7 @@ use mathlib.Core.List.{List, map}
 use lib.ListN.{length}
 use Rattle.token.specs.Tokens.{accepted, longest}
 use Rattle.scan.specs.declared.Room.{Room}
-use Rattle.machine.specs.Machine.{EventRow, reading, Event, eventsOf}
+use Rattle.machine.specs.Machine.{EventRow, State, reading, Event, eventsOf}
 use Rattle.form.specs.Canonical.{canonical}
 
 -- the events of a reading, names by text
@@ -32,3 +32,15 @@ pub record ReadsAgain (doc : List ℕ) (room : Room) : Type 0 where
   pub tokens-are : tokensRead (formRead doc room) room ≡ tokensRead doc room
   pub names-few : length (reading (formRead doc room) room .final .names) ≤ length (reading doc room .final .names)
   pub qnames-few : length (reading (formRead doc room) room .final .qnames) ≤ length (reading doc room .final .qnames)
+
+-- tables with this room hold the rows of a reading
+pub record Holds (room : Room) (s : State) : Type 0 where
+  pub names-fit : length (s .names) ≤ room .names
+  pub qnames-fit : length (s .qnames) ≤ room .qnames
+  pub events-fit : length (s .events) ≤ room .events
+
+-- a second document is accepted with the events and the outer version of a first, each with its tables
+pub record ReadAlike (doc : List ℕ) (room : Room) (doc′ : List ℕ) (room′ : Room) : Type 0 where
+  pub number-is : reading doc′ room′ .number ≡ accepted
+  pub version-is : reading doc′ room′ .version ≡ reading doc room .version
+  pub events-are : eventsRead doc′ room′ ≡ eventsRead doc room

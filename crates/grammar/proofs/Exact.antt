@@ -8,6 +8,7 @@ use native.Mathlib.Omega.{arith}
 use lib.Dec.{ltb}
 use lib.ListN.{length, length-append}
 use borrow.Author.Tests.{ltb-true, ltb-false}
+use Rattle.sequences.specs.Lists.{overlay}
 use Rattle.token.specs.Tokens.{accepted, longest}
 use Rattle.fields.specs.Fields.{headerAt}
 use Rattle.fields.specs.declared.Header as headers
@@ -19,7 +20,8 @@ use Rattle.scan.specs.declared.Room.{Room}
 use Rattle.scan.specs.declared.Step.{Step}
 use Rattle.scan.specs.declared.Step.the-variants as step
 use Rattle.machine.specs.Machine as machine
-use Rattle.machine.specs.Machine.{Scope, State, view, apply, started, Result, reading, eventsOf}
+use Rattle.machine.specs.Machine.{Scope, State, view, apply, started, Result, reading, Reads, flatNames, flatQnames, flatEvents, eventsOf}
+use Rattle.machine.specs.declared.Answer.{Answer}
 use Rattle.machine.proofs.Goes.{Goes}
 use Rattle.machine.proofs.Trace as traces
 use Rattle.machine.proofs.Trace.{Trace, Stopped, stops-reading, kept}
@@ -28,7 +30,7 @@ use Rattle.machine.proofs.Refusals.{header-refused}
 use Rattle.machine.proofs.Found as found
 use Rattle.machine.proofs.Found.{Found, found-step}
 use Rattle.machine.proofs.Readings.{accepted-ends}
-use Rattle.grammar.specs.Grammar.{Point, Rows, rowsAt, beforeHeader, HeaderBytes, Derives, rowsIn, Accepts, eventsDerived}
+use Rattle.grammar.specs.Grammar.{Point, Rows, rowsAt, beforeHeader, HeaderBytes, Derives, rowsIn, Accepts, Derivable, Gives, eventsDerived}
 use Rattle.grammar.proofs.Leaves.{header-found, header-derived}
 use Rattle.grammar.proofs.Rest.{wholly, ending}
 use Rattle.grammar.proofs.Sound.{pointOf, Left, sound}
@@ -108,7 +110,7 @@ module _ (doc : List ℕ) (room : Room) where
       let h = header-found doc 0 e in
       derived-by version l (h .0) (reading doc room) (rw (h .1) at (stops-reading doc room l e)) z
   accepted-header l (header.Refused number place) e z =
-      let q = header-refused doc 0 e in
+      let q = header-refused doc 0 e .some in
       let n : number ≡ 0 = ap (λ (r : Result). r .number) (header-on doc room l refl e) ∙ z in
       absurd (let y : ⊥ = omega arith in y)
 
@@ -166,3 +168,31 @@ module _ (doc : List ℕ) (room : Room) where
   -- demand 2: reading answers 0 with this version and these rows exactly when the document is derived with them within the limits
   pub exactly : (version : ℕ) (rows : Rows) → Accepts doc room version rows ↔ Derives doc room version rows
   exactly version rows = (λ a. accepts-derives a, λ g. derived-accepts g)
+
+-- ---- the same of the job (`Reads`, machine/specs/Machine.antt)
+
+module _ (doc : List ℕ) (room : Room) {names qnames events names′ qnames′ events′ : List ℕ} {a : Answer}
+    (x : Reads (reading doc room) names qnames events names′ qnames′ events′ a) where
+  -- demand 2: where there is a derivation, the answer is 0 and the tables hold its rows
+  pub derived-given : (version : ℕ) (rows : Rows) → Derives doc room version rows → Gives doc version rows names qnames events names′ qnames′ events′ a
+  derived-given version rows g =
+      let d = derived-accepts doc room g in
+      record {
+        number-is = ap (λ (b : Answer). b .number) (x .answer-is) ∙ d .number-is;
+        place-is = ap (λ (b : Answer). b .place) (x .answer-is) ∙ d .place-is;
+        version-is = ap (λ (b : Answer). b .version) (x .answer-is) ∙ d .version-is;
+        names-are = x .names-are ∙ ap (λ (r : Rows). overlay (flatNames (r .names)) names) (d .rows-are);
+        qnames-are = x .qnames-are ∙ ap (λ (r : Rows). overlay (flatQnames (r .qnames)) qnames) (d .rows-are);
+        events-are = x .events-are ∙ ap (λ (r : Rows). overlay (flatEvents (r .events)) events) (d .rows-are);
+      }
+
+  -- demand 2: the answer is 0 exactly when there is a derivation within the limits
+  pub read-exactly : (a .number ≡ accepted) ↔ Derivable doc room
+  read-exactly = (
+    λ e. record {
+      version = reading doc room .version;
+      rows = rowsIn (reading doc room .final);
+      derives = accepted-derives doc room (ap (λ (b : Answer). b .number) (sym (x .answer-is)) ∙ e);
+    },
+    λ d. derived-given (d .version) (d .rows) (d .derives) .number-is,
+  )

@@ -6,10 +6,11 @@ use mathlib.Core.List.{List, [], _∷_, _++_, map}
 use lib.ListN.{length, getD}
 use Rattle.token.specs.Tokens.{largest, mb32, mb64, longest, openElements, nestedDocuments, accepted, PI-TOKEN, NEST-TOKEN, ENDNEST-TOKEN, XMLDECL-TOKEN, ENCODING-TOKEN, DOCTYPEDECL-TOKEN, SYSTEM-TOKEN, PUBLIC-TOKEN, SUBSET-TOKEN, NAMEDEF-TOKEN, QNAMEDEF-TOKEN, EXTN-TOKEN, FLUSH-DEFINED-NAME-TOKENS, COMMENT-TOKEN, CDATA-TOKEN, CDATAEND-TOKEN, ATTRIBUTE-TOKEN, ENDATTRIBUTES-TOKEN, ELEMENT-TOKEN, ENDELEMENT-TOKEN}
 use mathlib.Core.Logic.{_⊎_}
-use Rattle.sequences.specs.Lists.{part, little}
+use Rattle.sequences.specs.Lists.{overlay, part, little}
 use Rattle.token.specs.declared.Shape.{Shape}
 use Rattle.token.specs.declared.Shape.the-variants as shape
-use Rattle.machine.specs.Machine.{NameRow, QnameRow, EventRow, nameRow, qnameRow, event, rowOf, State, reading, Event, eventOf}
+use Rattle.machine.specs.Machine.{NameRow, QnameRow, EventRow, nameRow, qnameRow, event, flatNames, flatQnames, flatEvents, rowOf, State, reading, Event, eventOf}
+use Rattle.machine.specs.declared.Answer.{Answer}
 use Rattle.scan.specs.declared.Room.{Room}
 
 -- ---- bytes, multi-byte numbers and texts
@@ -435,6 +436,21 @@ pub record Accepts (doc : List ℕ) (room : Room) (version : ℕ) (rows : Rows) 
   pub place-is : reading doc room .place ≡ length doc
   pub version-is : reading doc room .version ≡ version
   pub rows-are : rowsIn (reading doc room .final) ≡ rows
+
+-- a document has a derivation within the limits
+pub record Derivable (doc : List ℕ) (room : Room) : Type 0 where
+  pub version : ℕ
+  pub rows : Rows
+  pub derives : Derives doc room version rows
+
+-- the job answers 0 at the document's length with this version, and its tables hold these rows, laid over what stood there
+pub record Gives (doc : List ℕ) (version : ℕ) (rows : Rows) (names qnames events names′ qnames′ events′ : List ℕ) (a : Answer) : Type 0 where
+  pub number-is : a .number ≡ accepted
+  pub place-is : a .place ≡ length doc
+  pub version-is : a .version ≡ version
+  pub names-are : names′ ≡ overlay (flatNames (rows .names)) names
+  pub qnames-are : qnames′ ≡ overlay (flatQnames (rows .qnames)) qnames
+  pub events-are : events′ ≡ overlay (flatEvents (rows .events)) events
 
 -- the events of some rows, names by text
 abbrev pub eventsDerived : List ℕ → Rows → List Event

@@ -83,7 +83,7 @@ fn list_tables(
 
 // Fills the three tables as reading does, and then the list. The meanings are rendered into the smallest of three arrays that
 // has room for every document of this size, so that a small document does not pay for clearing the largest. The local arrays
-// take up to 1.5 MB of the stack.
+// stand in one frame: they take 1.4 MB of the stack for every document (README.md, "Stack").
 pub fn list(
     doc: &[u8],
     names: &mut [u32],

@@ -30,16 +30,9 @@ use Rattle.meaning.proofs.Same.{same-meaning}
 use Rattle.meaning.proofs.Exact.{exact, ordered, once}
 use Rattle.meaning.proofs.Recut.{recut-meanings}
 use Rattle.lister_contract.specs.declared.Answer.{Answer}
-use Rattle.lister_contract.specs.Contract.{answer, meaningsIn, pairsIn, pairRoom, pairsJudged, listAnswer, listOf, Lists}
+use Rattle.lister_contract.specs.Contract.{answer, meaningsIn, pairsIn, pairRoom, pairsJudged, listAnswer, listOf, Lists, Stands, Alike}
 
 -- ---- the numbers of a list
-
--- among the first n pairs of numbers of a list stands i, j
-pub record Stands (list : List ℕ) (n i j : ℕ) : Type 0 where
-  pub row : ℕ
-  pub low : row < n
-  pub earlier : getD list (2 * row) 0 ≡ i
-  pub later : getD list (2 * row + 1) 0 ≡ j
 
 stands-in : (ps : List Pair) (t : List ℕ) (i j : ℕ) (k : ℕ) → k < length ps → getD (flatPairs ps ++ t) (2 * k) 0 ≡ i → getD (flatPairs ps ++ t) (2 * k + 1) 0 ≡ j
     → In (pair i j) ps
@@ -129,6 +122,12 @@ module _ {doc : List ℕ} {r : Result} {names qnames events list names′ qnames
   pub count-true : r .number ≡ 0 → (a .records ≡ length (meaningsIn doc r)) × (a .pairs ≡ length (pairsIn doc r))
   count-true ok = rw (h .answer-is) (answer-counts doc r (pairRoom list) ok)
 
+  -- demand 3: the pairs counted, under 11 too: two records make one exactly where the earlier comes first and their meanings are equal
+  pub listed-exactly : r .number ≡ 0 → (i j : ℕ)
+      → In (pair i j) (pairsIn doc r) ↔ ((i < j) × (j < a .records) × (getElem? (meaningsIn doc r) i ≡ getElem? (meaningsIn doc r) j))
+  unfolding pairsIn
+  listed-exactly ok i j = rw (count-true ok .0) (exact sameMeaning same-meaning (meaningsIn doc r) (pair i j))
+
   -- demand 3: 11 is the answer exactly where the list has no room for the pairs
   pub small-exactly : r .number ≡ 0 → (a .number ≡ noPairs) ↔ (pairRoom list < length (pairsIn doc r))
   small-exactly ok = (
@@ -157,28 +156,15 @@ module _ {doc : List ℕ} {r : Result} {names qnames events list names′ qnames
     unfolding listOf
     listed-there = h .list-is ∙ rw (answer-held doc r (pairRoom list) (both-held .0) (both-held .1))
 
-    -- demand 3: a pair is listed exactly where both are records, the earlier first, and their meanings are equal
-    pub listed-exactly : (i j : ℕ)
-        → In (pair i j) (pairsIn doc r) ↔ ((i < j) × (j < a .records) × (getElem? (meaningsIn doc r) i ≡ getElem? (meaningsIn doc r) j))
-    unfolding pairsIn
-    listed-exactly i j = rw (count-true (both-held .0) .0) (exact sameMeaning same-meaning (meaningsIn doc r) (pair i j))
-
-    -- demand 3: the same, by the numbers that stand in the list
+    -- demand 3: two numbers stand in the list exactly where both are records, the earlier first, and their meanings are equal
     pub written-exactly : (i j : ℕ)
         → Stands list′ (a .pairs) i j ↔ ((i < j) × (j < a .records) × (getElem? (meaningsIn doc r) i ≡ getElem? (meaningsIn doc r) j))
     written-exactly i j = (
-      λ s. listed-exactly i j .0 (let t = rw (count-true (both-held .0) .1, listed-there) at s in stands-in (pairsIn doc r) _ i j (t .row) (t .low) (t .earlier) (t .later)),
-      λ e. rw (count-true (both-held .0) .1, listed-there) (in-stands (drop (length (flatPairs (pairsIn doc r))) list) i j (listed-exactly i j .1 e)),
+      λ s. listed-exactly (both-held .0) i j .0 (let t = rw (count-true (both-held .0) .1, listed-there) at s in stands-in (pairsIn doc r) _ i j (t .row) (t .low) (t .earlier) (t .later)),
+      λ e. rw (count-true (both-held .0) .1, listed-there) (in-stands (drop (length (flatPairs (pairsIn doc r))) list) i j (listed-exactly (both-held .0) i j .1 e)),
     )
 
 -- ---- two documents
-
--- the same records and pairs; the same list after the same list; and the same pairs in any lists that have the room
-pub record Alike (list list′ more more′ : List ℕ) (a b : Answer) : Type 0 where
-  pub records : a .records ≡ b .records
-  pub pairs : a .pairs ≡ b .pairs
-  pub lists : list ≡ more → list′ ≡ more′
-  pub fronts : a .pairs ≤ pairRoom list → b .pairs ≤ pairRoom more → take (2 * a .pairs) list′ ≡ take (2 * b .pairs) more′
 
 -- the list after an accepted document depends on the pairs alone
 unfoldable laid : List Pair → List ℕ → List ℕ

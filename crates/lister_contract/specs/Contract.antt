@@ -1,11 +1,11 @@
 -- What listing promises: its answer, the three tables as reading leaves them, and the list of pairs, for any document, tables
 -- and list (01, "Answer numbers").
-use Prim.Native.Nat.{ℕ, _/_}
+use Prim.Native.Nat.{ℕ, _+_, _*_, _/_, _≤_, _<_}
 use mathlib.Core.Path.{_≡_}
 use mathlib.Core.Bool.{cond}
 use mathlib.Core.List.{List}
 use lib.Dec.{ltb, eqb}
-use lib.ListN.{length}
+use lib.ListN.{length, getD, take}
 use Rattle.sequences.specs.Lists.{overlay}
 use Rattle.token.specs.Tokens.{accepted, noPairs}
 use Rattle.machine.specs.Machine.{flatNames, flatQnames, flatEvents, Result, eventsOf}
@@ -45,3 +45,19 @@ pub record Lists (doc : List ℕ) (r : Result) (names qnames events list names�
   pub qnames-are : qnames′ ≡ overlay (flatQnames (r .final .qnames)) qnames
   pub events-are : events′ ≡ overlay (flatEvents (r .final .events)) events
   pub list-is : list′ ≡ listOf doc r list
+
+-- ---- what is said of lists
+
+-- among the first n pairs of numbers of a list stands i, j
+pub record Stands (list : List ℕ) (n i j : ℕ) : Type 0 where
+  pub row : ℕ
+  pub low : row < n
+  pub earlier : getD list (2 * row) 0 ≡ i
+  pub later : getD list (2 * row + 1) 0 ≡ j
+
+-- two listings: the same records and pairs; the same list after the same list; and the same pairs in any lists that have the room
+pub record Alike (list list′ more more′ : List ℕ) (a b : Answer) : Type 0 where
+  pub records : a .records ≡ b .records
+  pub pairs : a .pairs ≡ b .pairs
+  pub lists : list ≡ more → list′ ≡ more′
+  pub fronts : a .pairs ≤ pairRoom list → b .pairs ≤ pairRoom more → take (2 * a .pairs) list′ ≡ take (2 * b .pairs) more′

@@ -5,6 +5,7 @@ pub mod Found
 pub mod Whole
 pub mod Checks
 pub mod Facts
+pub mod Answered
 pub mod Outside
 pub mod Refusals
 pub mod Readings

@@ -1,6 +1,6 @@
 -- Any reading: it is refused before its first token and has no row, or its steps lead from the header to one that stops.
 -- Assumes nothing.
-use Prim.Native.Nat.{ℕ, _≤_}
+use Prim.Native.Nat.{ℕ, _≤_, _<_}
 use mathlib.Core.Path.{_≡_, refl}
 use mathlib.Core.Bool.{Bool, true, false}
 use mathlib.Core.List.{List}
@@ -19,17 +19,22 @@ use Rattle.modes.specs.Modes.{content}
 use Rattle.machine.specs.Machine.{view, Result, result, blank, started, reading}
 use Rattle.machine.proofs.Trace.{Stopped, stops-reading}
 use Rattle.machine.proofs.Whole.{too-long, header-on}
-use Rattle.machine.proofs.Refusals.{header-refused}
+use Rattle.machine.proofs.Refusals.{Refusal, header-refused}
 use Rattle.machine.proofs.Found.{Found, stop, ended, found-step}
 
-module _ (doc : List ℕ) (room : Room) (P : Result → Type 0) (unread : (number place : ℕ) → 1 ≤ number → P (result number place 0 blank))
+-- a document that is refused before its first token: it is too long, or its header is refused
+pub data Unread (size : ℕ) : ℕ → ℕ → Type 0 where
+  long : longest < size → Unread size tooLong longest
+  headless : {number place : ℕ} → Refusal size 0 number place → Unread size number place
+
+module _ (doc : List ℕ) (room : Room) (P : Result → Type 0) (unread : (number place : ℕ) → Unread (length doc) number place → P (result number place 0 blank))
     (read : (version next : ℕ) → Stopped doc room version (started version next) (reading doc room) → P (reading doc room)) where
   by-header : length doc ≤ longest → (h : Header) → headerAt doc 0 ≡ h → P (reading doc room)
   by-header l (header.Is version next) e = read version next (stops-reading doc room l e)
-  by-header l (header.Refused number place) e = rw (← header-on doc room l refl e) (unread number place (header-refused doc 0 e))
+  by-header l (header.Refused number place) e = rw (← header-on doc room l refl e) (unread number place (headless (header-refused doc 0 e)))
 
   by-length : (b : Bool) → ltb longest (length doc) ≡ b → P (reading doc room)
-  by-length true e = rw (← too-long doc room (ltb-true _ _ e)) (unread tooLong longest (omega arith))
+  by-length true e = rw (← too-long doc room (ltb-true _ _ e)) (unread tooLong longest (long (ltb-true _ _ e)))
   by-length false e = by-header (ltb-false _ _ e) (headerAt doc 0) refl
 
   -- a fact of all readings
@@ -44,7 +49,7 @@ pub record Ends (size : ℕ) (v : View) : Type 0 where
   pub at-root : content (v .mode) ≡ true
 
 ends-by : {doc : List ℕ} {v : View} {room : Room} {number place : ℕ} → Found doc v room (step.Stop number place) → number ≡ 0 → Ends (length doc) v
-ends-by (stop l) e = absurd (let q : ⊥ = omega arith in q)
+ends-by (stop r) e = let l = r .some in absurd (let q : ⊥ = omega arith in q)
 ends-by (ended l d n c) e = record { past = l; depth-none = d; elements-none = n; at-root = c }
 
 -- an accepted reading ends well

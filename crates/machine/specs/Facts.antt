@@ -1,5 +1,4 @@
--- Serves the code. What the rows of a reading are (01, "Rows"): each row says what stands in the document, and the events stand
--- in order.
+-- What the rows of a reading are (01, "Rows"): each row says what stands in the document, and the events stand in order.
 use Prim.Native.Nat.{ℕ, _+_, _*_, _≤_, _<_}
 use mathlib.Core.Path.{_≡_}
 use mathlib.Core.Logic.{_⊎_}

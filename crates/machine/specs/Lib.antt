@@ -1,5 +1,6 @@
 pub mod Machine
 pub mod Facts
+pub mod Answered
 pub mod Examples
 pub mod Balance
 pub mod Tables

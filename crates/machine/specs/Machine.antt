@@ -108,7 +108,8 @@ abbrev pub qnamesIn : List Scope → List ℕ
 qnamesIn [] = []
 qnamesIn (o ∷ os) = qnamesIn os ++ o .qnames
 
--- what the next token is judged by
+-- what the next token is judged by; `base` and `qbase`, where the rows of this document begin on the reader's stacks, are looked at by no
+-- test of `stepAt`
 abbrev pub view : State → View
 view s =
     record {

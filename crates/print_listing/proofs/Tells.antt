@@ -3,11 +3,12 @@ use Prim.Native.Nat.{ℕ, zero, suc, _+_, _/_, _%_, _≤_, _<_}
 use mathlib.Core.Path.{_≡_, refl, sym, _∙_, ap}
 use mathlib.Core.List.{List, [], _∷_, _++_, append-assoc}
 use native.Mathlib.Omega.{arith}
-use lib.ListN.{drop}
+use lib.ListN.{getD, drop}
+use borrow.Author.Tests.{ne-eqb}
 use Rattle.numeral.specs.Numeral.{unlessZero, digitsIn, digits}
 use Rattle.numeral.proofs.Facts.{readFrom, digits-read-back}
 use Rattle.meaning.specs.Meaning.{Pair, pair}
-use Rattle.print_lines.specs.Lines.{line}
+use Rattle.print_lines.specs.Lines.{line, refusedWord, atWord}
 use Rattle.machine.specs.Machine.{reading, full}
 use Rattle.lister_contract.specs.Contract.{listAnswer, pairsIn}
 use Rattle.print_listing.specs.Printed.{recordsWord, pairsWord, pairLines, answerLines, printed}
@@ -64,24 +65,25 @@ joined first a second b x =
     ∙ append-assoc first (digits a) (((second ++ digits b) ++ (0x0A ∷ [])) ++ x)
     ∙ ap (λ (l : List ℕ). first ++ (digits a ++ l)) (append-assoc (second ++ digits b) (0x0A ∷ []) x ∙ append-assoc second (digits b) (0x0A ∷ x))
 
+cancel : (first l m : List ℕ) → first ++ l ≡ first ++ m → l ≡ m
+cancel [] l m e = e
+cancel (x ∷ first) l m e = cancel first l m (cc)
+
+-- a line tells its two numbers, and what follows it
+line-told : (first rest : List ℕ) (a b c d : ℕ) (x y : List ℕ) → line first a (0x20 ∷ rest) b ++ x ≡ line first c (0x20 ∷ rest) d ++ y → (a ≡ c) × (b ≡ d) × (x ≡ y)
+line-told first rest a b c d x y e =
+    let f = cancel first _ _ (sym (joined first a (0x20 ∷ rest) b x) ∙ e ∙ joined first c (0x20 ∷ rest) d y) in
+    let r = number-told 0x20 (omega arith) a c _ _ f in
+    let t = number-told 0x0A (omega arith) b d x y (cancel rest _ _ (r .1)) in
+    (r .0, t .0, t .1)
+
 pair-told : (p q : Pair) (x y : List ℕ) → line [] (p .earlier) (0x20 ∷ []) (p .later) ++ x ≡ line [] (q .earlier) (0x20 ∷ []) (q .later) ++ y → (p ≡ q) × (x ≡ y)
 pair-told p q x y e =
-    let f = sym (joined [] (p .earlier) (0x20 ∷ []) (p .later) x) ∙ e ∙ joined [] (q .earlier) (0x20 ∷ []) (q .later) y in
-    let a = number-told 0x20 (omega arith) (p .earlier) (q .earlier) _ _ f in
-    let b = number-told 0x0A (omega arith) (p .later) (q .later) x y (a .1) in
-    let i : p .earlier ≡ q .earlier = a .0 in
-    let j : p .later ≡ q .later = b .0 in
+    let r = line-told [] [] (p .earlier) (p .later) (q .earlier) (q .later) x y e in
+    let i : p .earlier ≡ q .earlier = r .0 in
+    let j : p .later ≡ q .later = r .1 in
     let k : pair (p .earlier) (p .later) ≡ pair (q .earlier) (q .later) = cc in
-    (k, b .1)
-
-counts-told : (a b c d : ℕ) (x y : List ℕ) → line recordsWord a pairsWord b ++ x ≡ line recordsWord c pairsWord d ++ y → (a ≡ c) × (b ≡ d) × (x ≡ y)
-counts-told a b c d x y e =
-    let f = sym (joined recordsWord a pairsWord b x) ∙ e ∙ joined recordsWord c pairsWord d y in
-    let g : digits a ++ (pairsWord ++ (digits b ++ (0x0A ∷ x))) ≡ digits c ++ (pairsWord ++ (digits d ++ (0x0A ∷ y))) = ap (drop 8) f in
-    let r = number-told 0x20 (omega arith) a c _ _ g in
-    let h : digits b ++ (0x0A ∷ x) ≡ digits d ++ (0x0A ∷ y) = ap (drop 6) (r .1) in
-    let t = number-told 0x0A (omega arith) b d x y h in
-    (r .0, t .0, t .1)
+    (k, r .2)
 
 -- a line is not empty
 some : (p : Pair) (x : List ℕ) → line [] (p .earlier) (0x20 ∷ []) (p .later) ++ x ≡ [] → ⊥
@@ -110,5 +112,26 @@ pub printed-tells : (d e : List ℕ) → listAnswer d (reading d full) 8192 .num
 unfolding printed answerLines
 printed-tells d e h k p =
     let f = rw (h, k) at p in
-    let r = counts-told _ _ _ _ (pairLines (pairsIn d (reading d full))) (pairLines (pairsIn e (reading e full))) f in
+    let r = line-told recordsWord (drop 1 pairsWord) _ _ _ _ (pairLines (pairsIn d (reading d full))) (pairLines (pairsIn e (reading e full))) f in
     (r .0, pairs-told _ _ (r .2))
+
+-- demand 3: a refusal is never printed as a list
+pub refusal-apart : (d e : List ℕ) → (listAnswer d (reading d full) 8192 .number ≡ 0 → ⊥) → listAnswer e (reading e full) 8192 .number ≡ 0 → printed d ≡ printed e → ⊥
+unfolding printed answerLines
+refusal-apart d e n k p =
+    let m = ne-eqb _ 0 n in
+    let f = rw (m, k) at p in
+    let i : _≡_ {A = ℕ} 0x66 0x63 = ap (λ (l : List ℕ). getD l 2 0) f in
+    omega arith
+
+-- demand 3: the same refusal printed is the same number and place
+pub refusal-tells : (d e : List ℕ) → (listAnswer d (reading d full) 8192 .number ≡ 0 → ⊥) → (listAnswer e (reading e full) 8192 .number ≡ 0 → ⊥) → printed d ≡ printed e
+    → (listAnswer d (reading d full) 8192 .number ≡ listAnswer e (reading e full) 8192 .number)
+    × (listAnswer d (reading d full) 8192 .place ≡ listAnswer e (reading e full) 8192 .place)
+unfolding printed answerLines
+refusal-tells d e n k p =
+    let m = ne-eqb _ 0 n in
+    let o = ne-eqb _ 0 k in
+    let f = rw (m, o) at p in
+    let r = line-told refusedWord (drop 1 atWord) _ _ _ _ [] [] (ap (λ (l : List ℕ). l ++ []) f) in
+    (r .0, r .1)

@@ -128,7 +128,8 @@ fn none_read(number: u32, place: usize) -> Answer
     }
 }
 
-// Reads a document into the three tables. Rows completed stay after a refusal, and nothing past them is touched.
+// Reads a document into the three tables. Rows completed stay after a refusal, and nothing past them is touched. Its local arrays
+// take 9 KB of the stack.
 pub fn read(doc: &[u8], names: &mut [u32], qnames: &mut [u32], events: &mut [u32]) -> Answer
     ensures { λ r. ⌜ Reads (reading (now (doc .entry)) (roomIn (length (now (names .entry))) (length (now (qnames .entry))) (length (now (events .entry)))))
         (now (names .entry)) (now (qnames .entry)) (now (events .entry)) (now (names .exit)) (now (qnames .exit)) (now (events .exit)) r ⌝ }

@@ -108,7 +108,7 @@ fn walk(
     w.at
 }
 
-// The answer of a document whose form has this length, before anything is written.
+// A refusal: nothing was written.
 fn refused(number: u32, place: usize) -> Answer
     ensures { λ r. ⌜ r ≡ answer number place 0 ⌝ }
 {
@@ -173,7 +173,8 @@ fn write_form(
     }
 }
 
-// Rewrites a document: fills the three tables as reading does, then the output with the canonical form.
+// Rewrites a document: fills the three tables as reading does, then the output with the canonical form. The local arrays of this
+// and of the walk take about 110 KB of the stack.
 pub fn rewrite(
     doc: &[u8],
     names: &mut [u32],

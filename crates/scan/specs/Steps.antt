@@ -17,7 +17,7 @@ use Rattle.value.specs.declared.Text.{Text}
 use Rattle.value.specs.declared.Text.the-variants as text
 use Rattle.value.specs.declared.Field.{Field}
 use Rattle.value.specs.declared.Field.the-variants as field
-use Rattle.fields.specs.Fields.{nameAt, qnameAt, headerAt}
+use Rattle.fields.specs.Fields.{nameAt, definedQname, qnameAt, headerAt}
 use Rattle.fields.specs.declared.Name.{Name}
 use Rattle.fields.specs.declared.Name.the-variants as name
 use Rattle.fields.specs.declared.Qname.{Qname}
@@ -113,7 +113,7 @@ attributeStep doc v room = referAfter v room (qnameAt (v .qknown) doc (v .at + 1
 abbrev pub valueAfter : View → Room → ℕ → Field → Step
 valueAfter v room token (field.Payload place size) = eventDue v room (step.Event token place size (afterValue (v .mode)) (place + size))
 valueAfter v room token (field.Reference number next) =
-    cond (leb 1 (number .0) && leb (number .0) (v .qknown)) (eventDue v room (step.Refer token number (afterValue (v .mode)) next))
+    cond (definedQname (v .qknown) (number .0)) (eventDue v room (step.Refer token number (afterValue (v .mode)) next))
     (step.Stop notDefined (v .at + 1))
 valueAfter v room token (field.Refused number place) = step.Stop number place
 

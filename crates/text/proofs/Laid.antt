@@ -1,8 +1,8 @@
 -- A text laid into a lent buffer, or refused for its room; and each way out of `show`. Assumes nothing.
 use Prim.Native.Nat.{ℕ, _+_, _-_, _*_, _/_, _≤_, _<_}
 use mathlib.Core.Path.{_≡_, refl, sym, _∙_, ap, subst}
-use mathlib.Core.Bool.{Bool, false}
-use mathlib.Core.Option.{some}
+use mathlib.Core.Bool.{Bool, true, false, cond}
+use mathlib.Core.Option.{Option, none, some}
 use mathlib.Core.List.{List}
 use native.Mathlib.Omega.{arith}
 use lib.ListN.{length}
@@ -12,6 +12,7 @@ use Rattle.sequences.specs.Lists.{overlay, bytesOf}
 use Rattle.sequences.proofs.Tests.{tests, cond-if}
 use Rattle.sequences.proofs.Overlay.{length-overlay}
 use Rattle.sequences.proofs.Units.{length-bytesOf}
+use Rattle.token.specs.Tokens.{accepted, noRoom}
 use Rattle.numeral.specs.Numeral.{numeral, truth}
 use Rattle.chunks.specs.Chunks.{chunksValue}
 use Rattle.numeral.specs.Puts.{Ends}
@@ -25,7 +26,7 @@ use Rattle.text.specs.declared.Shown.the-variants.{Own, Made, Short, NoT
 use Rattle.plan.specs.declared.Plan.{Plan}
 use Rattle.plan.specs.declared.Plan.the-variants.{Nothing, Payload, Number, Boolean, HexDigits, Base64Letters}
 use Rattle.plan.specs.Text.{kindOf, textOf, isSame}
-use Rattle.text.specs.Shows.{laid, laidIn, Shows}
+use Rattle.text.specs.Shows.{laid, laidIn, shownBy, heldBy, withCount, textAnswer, shownAnswer, Shows}
 use Rattle.plan.specs.Plans.{NumberFits, PayloadFits, Means}
 use Rattle.text.specs.Lays.{Lays}
 
@@ -66,6 +67,19 @@ need-base64 p = let e = length-base64 p in omega arith
 
 -- ---- showing
 
+-- 01's number and count of each case
+case-number : (own : Bool) (text : Option (List ℕ)) (room : ℕ) → textAnswer (shownBy own text room) ≡ shownAnswer own text room
+unfolding laid
+case-number true none room = refl
+case-number false none room = refl
+case-number true (some units) room = refl
+case-number false (some units) room = go (leb (length (bytesOf units)) room)
+  where
+    go : (t : Bool) → textAnswer (cond t (Made (length (bytesOf units))) (Short (length (bytesOf units))))
+        ≡ cond t (withCount accepted (length (bytesOf units))) (withCount noRoom (length (bytesOf units)))
+    go true = refl
+    go false = refl
+
 module _ (token : ℕ) (p : List ℕ) {plan : Plan} (m : Means (textOf token p) (isSame (kindOf token)) p plan) where
   -- what the plan means, in the arm of its `match`
   told : {q : Plan} → plan ≡ q → Means (textOf token p) (isSame (kindOf token)) p q
@@ -78,18 +92,23 @@ module _ (token : ℕ) (p : List ℕ) {plan : Plan} (m : Means (textOf token p) 
   payload-told e = told e .payload-fits
 
   module _ (before : List ℕ) where
+    -- the case of an answer tells its number
+    shows-by : {after : List ℕ} {r : Shown} → r ≡ shownBy (isSame (kindOf token)) (textOf token p) (length before)
+        → after ≡ heldBy (isSame (kindOf token)) (textOf token p) before → Shows token p before after r
+    shows-by e h = record { number-is = ap textAnswer e ∙ case-number (isSame (kindOf token)) (textOf token p) (length before); answer = e; holds = h }
+
     pub shows-none : plan ≡ Nothing → Shows token p before before NoText
-    shows-none e = let t = told e .text-is in record { answer = rw t; holds = rw t }
+    shows-none e = let t = told e .text-is in shows-by (rw t) (rw t)
 
     pub shows-own : plan ≡ Payload → Shows token p before before (Own (length p))
     shows-own e =
         let t = told e .text-is in
         let o = told e .own-is in
-        record { answer = rw (t, o) (ap Own (told e .payload-fits)); holds = rw (t, o) }
+        shows-by (rw (t, o) (ap Own (told e .payload-fits))) (rw (t, o))
 
     laid-by : {units after : List ℕ} {r : Shown} → textOf token p ≡ some units → isSame (kindOf token) ≡ false → Lays units before after r
         → Shows token p before after r
-    laid-by t o l = record { answer = rw (t, o) (l .answer); holds = rw (t, o) (l .holds) }
+    laid-by t o l = shows-by (rw (t, o) (l .answer)) (rw (t, o) (l .holds))
 
     pub shows-number : {minus : Bool} {size : Chunks} {scale : ℕ} {after : List ℕ} {r : Shown} → plan ≡ Number minus size scale
         → Lays (numeral minus (chunksValue size) scale) before after r → Shows token p before after r

