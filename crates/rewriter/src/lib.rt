@@ -174,7 +174,7 @@ fn write_form(
 }
 
 // Rewrites a document: fills the three tables as reading does, then the output with the canonical form. The local arrays of this
-// and of the walk take about 110 KB of the stack.
+// and of the walk take about 100 KB of the stack.
 pub fn rewrite(
     doc: &[u8],
     names: &mut [u32],
