@@ -15,6 +15,9 @@ pub const EVENTS: usize = token::EVENT_TABLE;
 // The bytes of the largest document, and one more, so that a document over the limit is noticed.
 pub const DOCUMENT: usize = token::LONGEST + 1;
 
+// The text of one file of cases, and one byte more, so that a longer file is noticed.
+pub const FILE_ROOM: usize = 1048577;
+
 // The end of the line that begins at a place: the next line feed, or the text's end.
 pub fn line_end(text: &[u8], from: usize) -> usize
     requires { ⌜ from ≤ length (now text) ⌝ }
@@ -166,4 +169,23 @@ pub fn load(i: usize, buffer: &mut [u8]) -> usize
     let size = io::read_full(file, buffer);
     libc::close(file);
     size
+}
+
+// Zeros for the text of a file. The `ensures` gives only the length, so that no proof computes with a list so long.
+pub fn file_buffer() -> [u8; FILE_ROOM]
+    ensures { λ r. ⌜ 1048577 ≡ length r ⌝ }
+{
+    [0; FILE_ROOM]
+}
+
+// Whether a file of so many bytes was read whole. Where it was not this is said, as a part of it would look like the whole.
+pub fn is_whole(size: usize) -> bool {
+    if size < FILE_ROOM {
+        return true;
+    }
+    io::write_all(
+        libc::STDOUT_FILENO,
+        b"a file of cases has over 1,048,576 bytes\n",
+    );
+    false
 }

@@ -4,12 +4,7 @@
 mod forms;
 mod pairs;
 
-ghost use mathlib.Core.Path.{_≡_};
-ghost use lib.ListN.{length};
 use libc::STDOUT_FILENO;
-
-// The text of one file, and one byte more, so that a longer file is noticed.
-const FILE_ROOM: usize = 1048577;
 
 // Writes what the reading program writes.
 fn write_reading(doc: &[u8]) {
@@ -50,23 +45,15 @@ fn run_lines(text: &[u8]) {
     }
 }
 
-// Zeros for the text of a file. The `ensures` gives only the length, so that no proof computes with a list so long.
-fn file_buffer() -> [u8; FILE_ROOM]
-    ensures { λ r. ⌜ 1048577 ≡ length r ⌝ }
-{
-    [0; FILE_ROOM]
-}
-
-// The cases of the file that an argument names; false where the file has no room, as a part of it would look like the whole.
+// The cases of the file that an argument names; false where the file has no room.
 fn run_file(i: usize) -> bool {
-    let mut text = file_buffer();
+    let mut text = cases::file_buffer();
     let size = cases::load(i, &mut text);
-    if size == FILE_ROOM {
-        io::write_all(STDOUT_FILENO, b"a file of cases has over 1,048,576 bytes\n");
-        return false;
+    if cases::is_whole(size) {
+        run_lines(&text[..size]);
+        return true;
     }
-    run_lines(&text[..size]);
-    true
+    false
 }
 
 fn main() {

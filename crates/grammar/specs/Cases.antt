@@ -1,4 +1,5 @@
--- The cases marked P in 01, "Extracts worked by hand", of reading and of value text, as one list; bytes as 01 writes them.
+-- The cases marked P in 01, "Extracts worked by hand", of reading and of value text, and those of 02, item 2, as one list; bytes as the
+-- papers write them.
 use Prim.Native.Nat.{ℕ}
 use mathlib.Core.List.{List, [], _∷_, _++_}
 use mathlib.Core.Option.{Option, some}
@@ -21,7 +22,7 @@ pub data Given : Type 0 where
   answer : ℕ → ℕ → List NameRow → List QnameRow → List EventRow → Given
   units : Option (List ℕ) → Given
 
--- what 01 says
+-- what 01 and 02 say
 abbrev pub said : Worked → Given
 said (read c) = answer (c .number) (c .place) [] [] []
 said (text token payload written) = units (some written)
@@ -56,6 +57,10 @@ cases =
     ∷ text 0x0A (0x06 ∷ 0x04 ∷ 0x01 ∷ 0x5E ∷ 0x0D ∷ 0x03 ∷ 0x00 ∷ []) (50 ∷ 48 ∷ 46 ∷ 48 ∷ 48 ∷ 51 ∷ 48 ∷ [])
     -- 05 with 103001: "10.3001"
     ∷ text 0x05 (0x59 ∷ 0x92 ∷ 0x01 ∷ 0 ∷ 0 ∷ 0 ∷ 0 ∷ 0 ∷ []) (49 ∷ 48 ∷ 46 ∷ 51 ∷ 48 ∷ 48 ∷ 49 ∷ [])
-    -- 07 FF: "-1"
-    ∷ text 0x07 (0xFF ∷ []) (45 ∷ 49 ∷ [])
+    -- 07 FF: "255" (02, item 2; 01 had "-1")
+    ∷ text 0x07 (0xFF ∷ []) (50 ∷ 53 ∷ 53 ∷ [])
+    -- 88 FF: "-1" (02, item 2; 01 had "255")
+    ∷ text 0x88 (0xFF ∷ []) (45 ∷ 49 ∷ [])
+    -- 07 C8: "200", the storeys of 02, item 2
+    ∷ text 0x07 (0xC8 ∷ []) (50 ∷ 48 ∷ 48 ∷ [])
     ∷ []

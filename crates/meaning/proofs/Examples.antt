@@ -148,6 +148,18 @@ value-pairs :
 unfolding shapeOf lawful lastDigits digitsIn digits fraction numeral kindOf signedText shown textOf declares namedSymbols plainSymbols depthAfter pieces meanings sameSymbol equalTo pairsFrom pairsOf
 value-pairs = refl
 
+-- 02, item 2: C8 as SQL-TINYINT means the text "200", as XSD-BYTE the text "-56"
+storeys-pairs :
+    pairs (
+    element ∷ valued 0x07 (0xC8 ∷ []) ∷ end
+    ∷ element ∷ valued 0x11 (0x32 ∷ 0 ∷ 0x30 ∷ 0 ∷ 0x30 ∷ 0 ∷ []) ∷ end
+    ∷ element ∷ valued 0x88 (0xC8 ∷ []) ∷ end
+    ∷ element ∷ valued 0x11 (0x2D ∷ 0 ∷ 0x35 ∷ 0 ∷ 0x36 ∷ 0 ∷ []) ∷ end
+    ∷ [])
+    ≡ pair 0 1 ∷ pair 2 3 ∷ []
+unfolding shapeOf lawful lastDigits digitsIn digits fraction numeral kindOf signedText shown textOf declares namedSymbols plainSymbols depthAfter pieces meanings sameSymbol equalTo pairsFrom pairsOf
+storeys-pairs = refl
+
 -- an element of a nested document is a record only where no element is open around it; nesting tokens do not count
 nested-pairs :
     pairs (element ∷ nest 1 ∷ element ∷ end ∷ plain 0xEB ∷ end ∷ nest 1 ∷ element ∷ element ∷ end ∷ end ∷ plain 0xEB ∷ element ∷ end ∷ []) ≡ pair 0 1 ∷ []

@@ -1,3 +1,4 @@
 pub mod Plans
 pub mod Lengths
 pub mod Rules
+pub mod Signs

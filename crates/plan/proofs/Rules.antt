@@ -73,7 +73,7 @@ module _ (token : ℕ) (p : List ℕ) (h : lawful (shapeOf token) p ≡ true) wh
             (
               (λ e. unsigned-rule p 1 refl (at e)),
               (
-                (λ e. signed-rule p 1 0 refl (lit≤ tt) (at e)),
+                (λ e. unsigned-rule p 1 refl (at e)),
                 (
                   (λ e. signed-rule p 8 0 refl (lit≤ tt) (at e)),
                   (
@@ -105,7 +105,7 @@ module _ (token : ℕ) (p : List ℕ) (h : lawful (shapeOf token) p ≡ true) wh
                                             (
                                               (λ e. at e),
                                               (
-                                                (λ e. unsigned-rule p 1 refl (at e)),
+                                                (λ e. signed-rule p 1 0 refl (lit≤ tt) (at e)),
                                                 (
                                                   (λ e. unsigned-rule p 2 refl (at e)),
                                                   (

@@ -14,14 +14,15 @@ use Rattle.base64.specs.Base64.{base64}
 use Rattle.plan.specs.declared.Kind.{Kind}
 use Rattle.plan.specs.declared.Kind.the-variants.{Unshown, Same, Signed, Unsigned, Truth, Decimal, Hex, Base64}
 
--- the tokens whose values have a text, and its kind (01, "Text of a value"); `Signed` carries the scale
+-- the tokens whose values have a text, and its kind (01, "Text of a value"; 07 and 88 as 02, item 2, has them, not 004, 2.3.1); `Signed`
+-- carries the scale
 abbrev pub kinds : List (ℕ × Kind)
 kinds =
     (0x01, Signed 0)  -- SQL-SMALLINT
     ∷ (0x02, Signed 0)  -- SQL-INT
     ∷ (0x05, Signed 4)  -- SQL-MONEY
     ∷ (0x06, Unsigned)  -- SQL-BIT
-    ∷ (0x07, Signed 0)  -- SQL-TINYINT
+    ∷ (0x07, Unsigned)  -- SQL-TINYINT
     ∷ (0x08, Signed 0)  -- SQL-BIGINT
     ∷ (0x0A, Decimal)  -- SQL-DECIMAL
     ∷ (0x0B, Decimal)  -- SQL-NUMERIC
@@ -37,7 +38,7 @@ kinds =
     ∷ (0x85, Base64)  -- XSD-BASE64
     ∷ (0x86, Truth)  -- XSD-BOOLEAN
     ∷ (0x87, Decimal)  -- XSD-DECIMAL
-    ∷ (0x88, Unsigned)  -- XSD-BYTE
+    ∷ (0x88, Signed 0)  -- XSD-BYTE
     ∷ (0x89, Unsigned)  -- XSD-UNSIGNEDSHORT
     ∷ (0x8A, Unsigned)  -- XSD-UNSIGNEDINT
     ∷ (0x8B, Unsigned)  -- XSD-UNSIGNEDLONG

@@ -1,5 +1,5 @@
-// Runs the vectors of value text: each line of standard input is a token, a payload, the size of a buffer and the expected
-// answer. Each line is written again with the answer that `show` and `part` give, so that the output equals the input.
+// Runs cases of value text. An argument names a file with one case to a line: a token, a payload, the size of a buffer and the
+// expected answer. Each line is written again with the answer that `show` and `part` give, so that the output equals the files.
 ghost use Prim.Native.Nat.{_≤_, _<_};
 use text::Shown;
 
@@ -144,7 +144,7 @@ fn run_line(line: &[u8]) {
 }
 
 // Runs the cases of a text, line by line.
-fn run(text: &[u8]) {
+fn run_lines(text: &[u8]) {
     let mut at = 0;
     while at < text.len() {
         let end = cases::line_end(text, at);
@@ -153,9 +153,24 @@ fn run(text: &[u8]) {
     }
 }
 
-// Standard input has the lines, at most 32,768 bytes of them.
+// Runs the cases of the file that an argument names; false where the file has no room.
+fn run_file(i: usize) -> bool {
+    let mut text = cases::file_buffer();
+    let size = cases::load(i, &mut text);
+    if cases::is_whole(size) {
+        run_lines(&text[..size]);
+        return true;
+    }
+    false
+}
+
 fn main() {
-    let mut text = [0u8; 32768];
-    let n = io::read_full(libc::STDIN_FILENO, &mut text);
-    run(&text[..n]);
+    let count = os::arg_count();
+    let mut i = 1;
+    while i < count {
+        if !run_file(i) {
+            return;
+        }
+        i += 1;
+    }
 }

@@ -1,9 +1,9 @@
--- `extract_cases::file_buffer` has its length. Assumes nothing.
+-- `cases::file_buffer` has its length. Assumes nothing.
 use Prim.Native.Nat.{ℕ}
 use mathlib.Core.Path.{sym}
 use lib.ListN.{length-replicate}
-use Rattle.extract_cases.proofs.file_buffer.Statement.{statement}
-use Rattle.extract_cases.proofs.file_buffer.Tie as tie
+use Rattle.cases.proofs.file_buffer.Statement.{statement}
+use Rattle.cases.proofs.file_buffer.Tie as tie
 
 returns : tie.Need-returns
 returns c = sym (length-replicate {A = ℕ} 1048577 0)

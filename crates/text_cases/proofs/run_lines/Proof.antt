@@ -1,9 +1,9 @@
--- `text_cases::run` is safe and ends. Assumes nothing.
+-- `text_cases::run_lines` is safe and ends. Assumes nothing.
 use borrow.Author.Needs.{needs}
 use Prim.Native.Nat.{_-_}
 use lib.ListN.{length}
-use Rattle.text_cases.proofs.run.Statement.{statement}
-use Rattle.text_cases.proofs.run.Tie as tie
+use Rattle.text_cases.proofs.run_lines.Statement.{statement}
+use Rattle.text_cases.proofs.run_lines.Tie as tie
 
 abbrev Inv-loop : tie.InvT-loop
 Inv-loop text at₀ at = Unit {0}
@@ -11,8 +11,8 @@ Inv-loop text at₀ at = Unit {0}
 abbrev μ-loop : tie.MeasureT-loop
 μ-loop text at₀ at = length text - at
 
-pub run-spec : {M : Type 1} → statement M
-run-spec =
+pub run-lines-spec : {M : Type 1} → statement M
+run-lines-spec =
     tie.close
     (tie.spec
     Inv-loop
