@@ -15,8 +15,8 @@ pub const EVENTS: usize = token::EVENT_TABLE;
 // The bytes of the largest document, and one more, so that a document over the limit is noticed.
 pub const DOCUMENT: usize = token::LONGEST + 1;
 
-// The text of one file of cases, and one byte more, so that a longer file is noticed.
-pub const FILE_ROOM: usize = 1048577;
+// The text of a program's files of cases, and one byte more, so that a longer text is noticed.
+pub const TEXT_ROOM: usize = 2097153;
 
 // The end of the line that begins at a place: the next line feed, or the text's end.
 pub fn line_end(text: &[u8], from: usize) -> usize
@@ -171,21 +171,31 @@ pub fn load(i: usize, buffer: &mut [u8]) -> usize
     size
 }
 
-// Zeros for the text of a file. The `ensures` gives only the length, so that no proof computes with a list so long.
-pub fn file_buffer() -> [u8; FILE_ROOM]
-    ensures { λ r. ⌜ 1048577 ≡ length r ⌝ }
+// Zeros for the text of the files. The `ensures` gives only the length, so that no proof computes with a list so long.
+pub fn text_buffer() -> [u8; TEXT_ROOM]
+    ensures { λ r. ⌜ 2097153 ≡ length r ⌝ }
 {
-    [0; FILE_ROOM]
+    [0; TEXT_ROOM]
 }
 
-// Whether a file of so many bytes was read whole. Where it was not this is said, as a part of it would look like the whole.
-pub fn is_whole(size: usize) -> bool {
-    if size < FILE_ROOM {
-        return true;
+// Reads the files that the program's arguments name, one behind the other; how many bytes they have. Where they do not leave a byte
+// of the buffer free this is said, and none are given, as a part of the cases would look like the whole.
+pub fn load_all(text: &mut [u8]) -> usize
+    ensures { λ r. ⌜ Counts r (now (text .exit)) ⌝ }
+{
+    let count = os::arg_count();
+    let mut size = 0;
+    let mut i = 1;
+    while i < count {
+        size += load(i, &mut text[size..]);
+        i += 1;
+    }
+    if size < text.len() {
+        return size;
     }
     io::write_all(
         libc::STDOUT_FILENO,
-        b"a file of cases has over 1,048,576 bytes\n",
+        b"the files of cases have over 2,097,152 bytes\n",
     );
-    false
+    0
 }

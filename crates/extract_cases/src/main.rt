@@ -1,4 +1,4 @@
-// Runs reading, rewriting and listing on documents. An argument names a file with one case to a line: a name, a space, and
+// Runs reading, rewriting and listing on documents. The arguments name files with one case to a line: a name, a space, and
 // the document's bytes in hexadecimal. For each case a line with its name is written, then what the reading program writes,
 // then what rewriting gives (forms.rt) and what listing gives (pairs.rt).
 mod forms;
@@ -45,24 +45,8 @@ fn run_lines(text: &[u8]) {
     }
 }
 
-// The cases of the file that an argument names; false where the file has no room.
-fn run_file(i: usize) -> bool {
-    let mut text = cases::file_buffer();
-    let size = cases::load(i, &mut text);
-    if cases::is_whole(size) {
-        run_lines(&text[..size]);
-        return true;
-    }
-    false
-}
-
 fn main() {
-    let count = os::arg_count();
-    let mut i = 1;
-    while i < count {
-        if !run_file(i) {
-            return;
-        }
-        i += 1;
-    }
+    let mut text = cases::text_buffer();
+    let size = cases::load_all(&mut text);
+    run_lines(&text[..size]);
 }

@@ -1,4 +1,4 @@
-// Runs cases of value text. An argument names a file with one case to a line: a token, a payload, the size of a buffer and the
+// Runs cases of value text. The arguments name files with one case to a line: a token, a payload, the size of a buffer and the
 // expected answer. Each line is written again with the answer that `show` and `part` give, so that the output equals the files.
 ghost use Prim.Native.Nat.{_≤_, _<_};
 use text::Shown;
@@ -153,24 +153,8 @@ fn run_lines(text: &[u8]) {
     }
 }
 
-// Runs the cases of the file that an argument names; false where the file has no room.
-fn run_file(i: usize) -> bool {
-    let mut text = cases::file_buffer();
-    let size = cases::load(i, &mut text);
-    if cases::is_whole(size) {
-        run_lines(&text[..size]);
-        return true;
-    }
-    false
-}
-
 fn main() {
-    let count = os::arg_count();
-    let mut i = 1;
-    while i < count {
-        if !run_file(i) {
-            return;
-        }
-        i += 1;
-    }
+    let mut text = cases::text_buffer();
+    let size = cases::load_all(&mut text);
+    run_lines(&text[..size]);
 }
