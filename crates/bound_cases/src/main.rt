@@ -1,6 +1,8 @@
 // Each job at the bound of 65,536 bytes (01, "Numbers that bound the work"): a document of that length is accepted and one of a byte
 // more refused with 1; so is a payload of that length shown, and one of a byte more has no text. The document is a header and one
 // comment whose text fills it.
+#![tactic(auto)]
+
 ghost use Rattle.std.specs.Prelude.{◌≡◌, ◌≤◌, length};
 
 use libc::STDOUT_FILENO;

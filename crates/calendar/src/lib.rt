@@ -1,11 +1,13 @@
 // The date of a day number (004, section 2.4.1), in the proleptic Gregorian calendar (004, section 2; 02, item 1). Divisions by
 // constants find it: there is no loop over years or months.
+#![tactic(auto)]
+
 ghost use Rattle.std.specs.Prelude.{◌≡◌, ◌+◌, ◌≤◌, ◌<◌};
 ghost use Rattle.calendar.specs.Calendar.{leap, last_day};
 ghost use Rattle.calendar.specs.Dates.{evened, date_in, date_of};
 
 // Year 1 to 9999, month 1 to 12, day of the month from 1 on.
-#[derive(Drop)]
+#[derive(Clone, Copy)]
 pub struct Date {
     pub year: u32,
     pub month: u32,

@@ -1,5 +1,7 @@
 // Test cases as lines of text with bytes in hexadecimal: for the programs that run worked cases and vectors.
 // Nothing here is part of a job, so its contracts say only what keeps the programs inside their buffers.
+#![tactic(auto)]
+
 ghost use Rattle.std.specs.Prelude.{◌≡◌, ◌+◌, ◌≤◌, ◌<◌, length};
 ghost use Rattle.io.specs.Counts.{IsPrefixLen};
 

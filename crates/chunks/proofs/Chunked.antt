@@ -10,6 +10,7 @@ use Rattle.chunks.specs.declared.Chunks.{Chunks}
 use Rattle.chunks.specs.Chunks.{chunks_value, Chunked}
 
 pub pow_out : (k : ℕ) → 0 < k → 10 ^ k ≡ 10 * 10 ^ (k - 1)
+pow_out zero h = elim h [ ]
 pow_out (suc k) h = let e : suc k - 1 ≡ k = omega arith in rw e (pow-succ' 10 k)
 
 pub ten_pos : (k : ℕ) → 0 < 10 ^ k
@@ -76,6 +77,8 @@ low_alone n a b = rw (a, b, mul-zero) (omega arith)
 -- ---- zero
 
 both_positive : (a b : ℕ) → 0 < a → 0 < b → 0 < a * b
+both_positive zero b h k = elim h [ ]
+both_positive (suc a) zero h k = elim k [ ]
 both_positive (suc a) (suc b) h k = omega arith
 
 not_upper : (n : Chunks) → 0 < upper n → chunks_value n ≡ 0 → ⊥

@@ -1,11 +1,13 @@
 // Numbers of up to 128 bits as chunks of 18 decimal digits, from little-endian bytes.
+#![tactic(auto)]
+
 ghost use Rattle.std.specs.Prelude.{◌≡◌, ◌+◌, ◌-◌, ◌/◌, ◌%◌, ◌^◌, ◌≤◌, ◌<◌, length, take, drop, true};
 ghost use Rattle.std.proofs.Math.Seq.{slice};
 ghost use Rattle.sequences.specs.Lists.{part, little};
 ghost use Rattle.chunks.specs.Chunks.{word_size, chunks_value, Chunked, limbs_value, LimbsFit, Divides};
 
 // A number: `low` has its last `left` digits, `mid` the 18 above them, `high` the rest.
-#[derive(Drop)]
+#[derive(Clone, Copy)]
 pub struct Chunks {
     pub low: u64,
     pub mid: u64,
@@ -14,7 +16,7 @@ pub struct Chunks {
 }
 
 // A number of 128 bits in four limbs of 32, the least significant first.
-#[derive(Drop)]
+#[derive(Clone, Copy)]
 pub struct Limbs {
     a: u64,
     b: u64,
@@ -23,7 +25,7 @@ pub struct Limbs {
 }
 
 // What a division gives.
-#[derive(Drop)]
+#[derive(Clone, Copy)]
 struct Divided {
     quotient: Limbs,
     rest: u64,

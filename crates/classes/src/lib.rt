@@ -1,6 +1,8 @@
 // Rows with equal texts have one class. What the searches over names and over qnames share: a row's class, and the tree in which the
 // first row of each text stands. Its place is found by a hash: first the slot, then at each row on the way a bit of the hash, from the
 // lowest on. So a row with another hash than all others is at most as deep as the hash has bits, whatever its slot.
+#![tactic(auto)]
+
 ghost use Rattle.std.specs.Prelude.{◌≡◌, cond, ◌≤◌, ◌<◌, min, length, get_or, set, ltb};
 ghost use Rattle.classes.specs.Search.{class_at, Keyable};
 ghost use Rattle.classes.specs.Tree.{tree_places};

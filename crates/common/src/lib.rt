@@ -1,4 +1,6 @@
 // The commonest tokens, told with fewer tests where nothing refuses them.
+#![tactic(auto)]
+
 ghost use Rattle.std.specs.Prelude.{◌≡◌, get_or, ◌<◌};
 ghost use Rattle.token.specs.Entries.{Listed};
 ghost use Rattle.token.specs.Tokens.{ELEMENT_TOKEN};
@@ -80,7 +82,7 @@ pub fn common_at(table: &[u16; 256], doc: &[u8], v: View, room: Room) -> Common
 }
 
 // The commonest tokens, where nothing refuses them.
-#[derive(Drop)]
+#[derive(Clone, Copy)]
 pub enum Common {
     // any other token, every refusal, and the end of the input
     Other,

@@ -1,5 +1,6 @@
 // Standard input and output of the programs. What cannot be read or written is said on standard error: half a document
 // must not be taken for a whole one, nor half a list for the list.
+#![tactic(auto)]
 
 // Whether standard input was read to its end: so many bytes are in a buffer with so much room. A read that fails ends the
 // reading as the end of the input does; one read more tells them apart.

@@ -1,6 +1,8 @@
 // Runs reading, rewriting and listing on documents. The arguments name files with one case to a line: a name, a space, and
 // the document's bytes in hexadecimal. For each case a line with its name is written, then what the reading program writes,
 // then what rewriting gives (forms.rt) and what listing gives (pairs.rt).
+#![tactic(auto)]
+
 mod forms;
 mod pairs;
 

@@ -1,5 +1,7 @@
 // Fields of tokens that are no payload: references to names and qnames by number, and the header of a document
 // (004, sections 2.1.1 and 2.2; 01, "Document rules").
+#![tactic(auto)]
+
 ghost use Rattle.std.specs.Prelude.{◌≡◌, ◌<◌, length};
 ghost use Rattle.fields.specs.Fields.{name_at, qname_at, header_at};
 ghost use Rattle.fields.specs.Bounds.{NameWithin, QnameWithin, HeaderWithin};
@@ -8,19 +10,19 @@ ghost use Rattle.fields.specs.Faults.{Judges, refused_by};
 use number::Number;
 use token::{NameNumber, QnameNumber};
 
-#[derive(Drop)]
+#[derive(Clone, Copy)]
 pub enum Name {
     Is { number: NameNumber, next: usize },
     Refused { number: u32, place: usize },
 }
 
-#[derive(Drop)]
+#[derive(Clone, Copy)]
 pub enum Qname {
     Is { number: QnameNumber, next: usize },
     Refused { number: u32, place: usize },
 }
 
-#[derive(Drop)]
+#[derive(Clone, Copy)]
 pub enum Header {
     Is { version: usize, next: usize },
     Refused { number: u32, place: usize },

@@ -1,4 +1,6 @@
 // The bytes of the form's fields: texts and payloads after their lengths, and headers.
+#![tactic(auto)]
+
 ghost use Rattle.std.specs.Prelude.{◌++◌, ◌+◌, ◌*◌, ◌≤◌, length};
 ghost use Rattle.sequences.specs.Lists.{part};
 ghost use Rattle.number.specs.Number.{shortest};

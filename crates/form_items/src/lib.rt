@@ -1,4 +1,6 @@
 // One row of events in the form: what it asks of the walk, its bytes, written or only counted, and what it defines.
+#![tactic(auto)]
+
 ghost use Rattle.std.specs.Prelude.{◌≡◌, ◌+◌, ◌*◌, ◌≤◌, ◌<◌, length, get_or, [], ◌∷◌, ◌++◌};
 ghost use Rattle.token.specs.Entries.{Listed};
 ghost use Rattle.machine.specs.Machine.{event};
@@ -98,7 +100,7 @@ pub fn depth_after(item: Item, depth: usize) -> usize
 }
 
 // An event as the walk takes it.
-#[derive(Drop)]
+#[derive(Clone, Copy)]
 pub enum Item {
     // a byte alone: the standalone byte, ENDELEMENT, ENDATTRIBUTES, CDATAEND
     Byte(usize),
@@ -127,7 +129,7 @@ pub enum Item {
 }
 
 // A place in the output, and how many documents are nested there.
-#[derive(Drop)]
+#[derive(Clone, Copy)]
 pub struct Spot {
     pub at: usize,
     pub depth: usize,

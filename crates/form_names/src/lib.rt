@@ -1,4 +1,6 @@
 // Names and qnames of the form: defined where they are first needed in their document, and numbered there.
+#![tactic(auto)]
+
 ghost use Rattle.std.specs.Prelude.{◌≡◌, ◌∷◌, ◌++◌, ◌+◌, ◌*◌, ◌≤◌, length};
 ghost use Rattle.number.specs.Number.{shortest};
 ghost use Rattle.machine.specs.Tables.{NamesInside};

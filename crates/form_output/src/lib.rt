@@ -1,4 +1,6 @@
 // Bytes into an output, written or only counted: an output that ends at or before a place takes nothing.
+#![tactic(auto)]
+
 ghost use Rattle.std.specs.Prelude.{◌≡◌, ◌+◌, ◌≤◌, length, set};
 ghost use Rattle.std.proofs.lemmas.List.Edits.{sets};
 ghost use Rattle.sequences.specs.Lists.{part};

@@ -1,4 +1,6 @@
 // What a document of the form has defined: for each open document the number of each class, or 0.
+#![tactic(auto)]
+
 ghost use Rattle.std.specs.Prelude.{◌≡◌, ◌+◌, ◌*◌, ◌≤◌, ◌<◌, length, get_or};
 ghost use Rattle.form_slots.specs.Slots.{marked, number_in, parts_at, Low, Trail, Cleared, slot_count, region, low_names};
 ghost use Rattle.token.specs.Tokens.{qname_width, name_rows, qname_rows};
@@ -15,7 +17,7 @@ pub const REGION: usize = 2 * CLASSES;
 pub const SLOTS: usize = REGION * (token::NESTED_DOCUMENTS + 1);
 
 // The classes of a qname's URI, prefix and local name.
-#[derive(Drop)]
+#[derive(Clone, Copy)]
 pub struct Parts {
     pub uri: NameNumber,
     pub prefix: NameNumber,

@@ -1,4 +1,6 @@
 // The hash of a list of numbers, one step for each. What uses it depends on this alone: equal lists have equal hashes.
+#![tactic(auto)]
+
 ghost use Rattle.std.specs.Prelude.{◌≡◌};
 ghost use Rattle.hash.specs.Hash.{mix_of};
 

@@ -1,4 +1,6 @@
 // The text of a blob in upper-case hexadecimal, as 16-bit units (004, 2.3.17).
+#![tactic(auto)]
+
 ghost use Rattle.std.specs.Prelude.{◌≡◌, [], ◌∷◌, ◌+◌, ◌-◌, ◌*◌, ◌/◌, ◌≤◌, ◌<◌, length, get_or};
 ghost use Rattle.std.proofs.lemmas.List.Edits.{sets};
 ghost use Rattle.sequences.specs.Lists.{overlay, bytes_of};

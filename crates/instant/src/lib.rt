@@ -1,4 +1,6 @@
 // The date and time that a payload means (02, item 1): its fields, whole days carried into the date, UTC moved into local time.
+#![tactic(auto)]
+
 ghost use Rattle.std.specs.Prelude.{◌≡◌, true, ◌+◌, ◌*◌, ◌%◌, ◌≤◌, ◌<◌, length};
 ghost use Rattle.rules.specs.Rules.{time_bytes, lawful};
 ghost use Rattle.calendar.specs.Calendar.{last_day};
@@ -8,7 +10,7 @@ ghost use Rattle.instant.specs.Forms.{form_shape};
 use moment::Moment;
 
 // The values that have a text, as 004 names their types.
-#[derive(Drop)]
+#[derive(Clone, Copy)]
 pub enum Form {
     // 7F: a date
     Date2,
@@ -23,21 +25,21 @@ pub enum Form {
 }
 
 // What a payload means, or that it has no text.
-#[derive(Drop)]
+#[derive(Clone, Copy)]
 pub enum Found {
     Text(Moment),
     NoText,
 }
 
 // A day and the time of that day, or a date that the calendar has not.
-#[derive(Drop)]
+#[derive(Clone, Copy)]
 pub enum Local {
     At(u32, u64),
     Outside,
 }
 
 // Precision, time and date as they are stored; the time may have any number of whole days.
-#[derive(Drop)]
+#[derive(Clone, Copy)]
 struct Stored {
     precision: usize,
     ticks: u64,
@@ -45,7 +47,7 @@ struct Stored {
 }
 
 // A zone: so many minutes, west of UTC or not.
-#[derive(Drop)]
+#[derive(Clone, Copy)]
 struct Zone {
     minus: bool,
     minutes: u64,

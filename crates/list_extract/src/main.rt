@@ -2,6 +2,8 @@
 // for each pair, the earlier record first; or one line `refused C at N` (01, "Extracts worked by hand"). The contract of
 // `print_listing::print` says it byte for byte. One byte more than the limit is read, so that a document over it can be answered.
 // The bytes that are read: one more than the limit.
+#![tactic(auto)]
+
 const INPUT: usize = token::LONGEST + 1;
 
 fn main() {

@@ -1,6 +1,8 @@
 // Listing: the pairs of records with equal meaning, for any document, tables and list (01, "The four jobs"). The meanings of
 // all records are rendered as numbers into one array, with their hashes; equal parts of it are linked, counted, and written as
 // pairs.
+#![tactic(auto)]
+
 ghost use Rattle.std.specs.Prelude.{◌≡◌, length, ◌≤◌};
 ghost use Rattle.machine.specs.Machine.{reading, room_in};
 ghost use Rattle.machine.specs.Tables.{Filled};

@@ -15,7 +15,7 @@ use Rattle.sequences.proofs.Units.{bytes_first, bytes_rest}
 use Rattle.sequences.proofs.Members.{every_append}
 use Rattle.numeral.specs.Numeral.{last_digits, unless_zero, digits_in, digits, fraction, sign, numeral, truth}
 use Rattle.hexadecimal.specs.Hexadecimal.{hex_digit, hex}
-use Rattle.base64.specs.Base64.{letter, base64}
+use Rattle.base64_text.specs.Base64.{letter, base64}
 use Rattle.plan.specs.Text.{kind_of, signed_text, shown, text_of}
 use Rattle.plan.specs.declared.Kind.{Kind}
 use Rattle.plan.specs.declared.Kind.TheVariants.{Unshown, Same, Signed, Unsigned, Truth, Decimal, Hex, Base64}

@@ -1,7 +1,8 @@
 // What listing promises, and the theorems on it. No function here; the code is in crate lister.
+#![tactic(auto)]
 
 // The answer number, its place or count, and how many records and pairs there are.
-#[derive(Drop)]
+#[derive(Clone, Copy)]
 pub struct Answer {
     pub number: u32,
     pub place: usize,

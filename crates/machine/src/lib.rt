@@ -1,8 +1,9 @@
 // Reading as a definition: rows, what each token does, the machine, its answer, and facts about the rows of any reading. No function
 // here; the code that reads is in crates rows, steps and reader.
+#![tactic(auto)]
 
 // The answer number and its place, the rows in each table, and the outer version (0 until its whole header is read).
-#[derive(Drop)]
+#[derive(Clone, Copy)]
 pub struct Answer {
     pub number: u32,
     pub place: usize,

@@ -1,4 +1,6 @@
 // A mark for each row of qnames, made once: the walk over the events then looks up no class and compares no text.
+#![tactic(auto)]
+
 ghost use Rattle.std.specs.Prelude.{◌≡◌, ◌||◌, ℕ, ◌≤◌, ◌<◌, length, take};
 ghost use Rattle.sequences.specs.Lists.{same};
 ghost use Rattle.meaning.specs.Meaning.{xmlns};

@@ -1,4 +1,6 @@
 // What may come next in a document: modes, the view that a token is judged by, and whether a token may stand at its place.
+#![tactic(auto)]
+
 ghost use Rattle.std.specs.Prelude.{◌≡◌, ◌<◌, ◌&&◌, ◌||◌};
 ghost use Rattle.modes.specs.Modes.{mode_number, allowed, after_metadata, after_misc, after_value};
 
@@ -28,7 +30,7 @@ pub const AFTER_XMLDECL: usize = 9;
 const AFTER_ENCODING: usize = 10;
 
 // What may come next.
-#[derive(Drop)]
+#[derive(Clone, Copy)]
 pub enum Mode {
     Content,
     // after an ELEMENT's number
@@ -50,7 +52,7 @@ pub enum Mode {
 
 // What a token is judged by. `known` names and `qknown` qnames are defined in this document; their rows stand in the
 // reader's stacks from `base` and `qbase` on. `elements` are open in this document, `opened` in all.
-#[derive(Drop)]
+#[derive(Clone, Copy)]
 pub struct View {
     pub at: usize,
     pub mode: Mode,

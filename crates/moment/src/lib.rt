@@ -1,4 +1,6 @@
 // Dates and times, and their text at the end of the small buffer that numbers are written in (02, item 1).
+#![tactic(auto)]
+
 ghost use Rattle.std.specs.Prelude.{◌≡◌, cond, [], ◌∷◌, ◌++◌, ◌+◌, ◌^◌, ◌≤◌, length};
 ghost use Rattle.numeral.specs.Numeral.{last_digits, fraction};
 ghost use Rattle.numeral.specs.Puts.{small_units, small_bytes, UnitsPut, Ends};
@@ -8,7 +10,7 @@ ghost use Rattle.moment.specs.Moment.{date_text, clock_text, zone_text, day_time
 ghost use Rattle.moment.specs.Written.{Writable};
 
 // A day is a day number; a time has a precision of 0 to 7, and `ticks` of 10^-precision seconds.
-#[derive(Drop)]
+#[derive(Clone, Copy)]
 pub enum Moment {
     Day(u32),
     Time {

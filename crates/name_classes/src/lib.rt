@@ -1,5 +1,7 @@
 // Classes of rows of names with equal texts: texts are compared here, once for a table, and only where their hashes are equal. The
 // classes do not depend on the hash.
+#![tactic(auto)]
+
 ghost use Rattle.std.specs.Prelude.{◌≡◌, cond, ◌+◌, ◌*◌, ◌≤◌, ◌<◌, length, get_or, eqb};
 ghost use Rattle.sequences.specs.Lists.{same};
 ghost use Rattle.sequences.specs.Arrays.{Front, Every};

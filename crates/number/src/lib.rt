@@ -1,5 +1,7 @@
 // Multi-byte numbers: seven bits a byte, the least significant first; the first byte below 80 hex ends the number
 // (004, section 2.3.2; 01, "Document rules").
+#![tactic(auto)]
+
 ghost use Rattle.std.specs.Prelude.{◌≡◌, ◌+◌, ◌*◌, ◌≤◌, ◌<◌, min, length};
 ghost use Rattle.number.specs.Number.{number_at, size_of};
 ghost use Rattle.number.specs.Bounds.{Within, over_largest, scale_end};
@@ -10,7 +12,7 @@ const OVER_LARGEST: usize = token::LARGEST + 1;
 
 const SCALE_END: usize = 34359738368;
 
-#[derive(Drop)]
+#[derive(Clone, Copy)]
 pub enum Number {
     Is { value: usize, next: usize },
     Refused { number: u32, place: usize },

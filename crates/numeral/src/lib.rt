@@ -1,5 +1,7 @@
 // The text of a number, as at most 41 units of 16 bits (01, "Text of a value"). Numbers of every width become chunks of
 // 18 digits first, so that each digit costs one division of a u64.
+#![tactic(auto)]
+
 ghost use Rattle.std.specs.Prelude.{◌≡◌, ◌+◌, ◌-◌, ◌/◌, ◌%◌, ◌^◌, ◌≤◌, ◌<◌, length, drop, eqb};
 ghost use Rattle.sequences.specs.Lists.{overlay};
 ghost use Rattle.numeral.specs.Numeral.{digits, numeral, truth};
@@ -14,7 +16,7 @@ pub const SMALL_UNITS: usize = 41;
 pub const SMALL_BYTES: usize = 82;
 
 // A number whose digits are still to be written, and the unit before which they end.
-#[derive(Drop)]
+#[derive(Clone, Copy)]
 struct Unwritten {
     number: Chunks,
     end: usize,

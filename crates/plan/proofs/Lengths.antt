@@ -18,7 +18,7 @@ use Rattle.numeral.specs.Numeral.{truth}
 use Rattle.chunks.specs.Chunks.{word_size}
 use Rattle.numeral.proofs.Facts.{at_most_41}
 use Rattle.hexadecimal.proofs.Hex.{length_hex}
-use Rattle.base64.proofs.Base64.{length_base64}
+use Rattle.base64_text.proofs.Base64.{length_base64}
 use Rattle.plan.specs.declared.Kind.{Kind}
 use Rattle.plan.specs.declared.Kind.TheVariants.{Unshown, Same, Signed, Unsigned, Truth, Decimal, Hex, Base64}
 use Rattle.plan.specs.Text.{kind_of, signed_text, shown, text_of}

@@ -8,7 +8,7 @@ use Rattle.rules.specs.Rules.{decimal_lawful}
 use Rattle.numeral.specs.Numeral.{numeral, truth}
 use Rattle.chunks.specs.Chunks.{word_size, chunks_value, Chunked}
 use Rattle.hexadecimal.specs.Hexadecimal.{hex}
-use Rattle.base64.specs.Base64.{base64}
+use Rattle.base64_text.specs.Base64.{base64}
 use Rattle.plan.specs.declared.Kind.{Kind}
 use Rattle.plan.specs.declared.Kind.TheVariants.{Unshown, Same, Signed, Unsigned, Truth, Decimal, Hex, Base64}
 use Rattle.plan.specs.declared.Plan.{Plan}

@@ -6,7 +6,7 @@ use Rattle.token.specs.Tokens.{longest, shape_of}
 use Rattle.rules.specs.Rules.{lawful}
 use Rattle.numeral.specs.Numeral.{numeral, truth}
 use Rattle.hexadecimal.specs.Hexadecimal.{hex}
-use Rattle.base64.specs.Base64.{base64}
+use Rattle.base64_text.specs.Base64.{base64}
 use Rattle.plan.specs.declared.Kind.{Kind}
 use Rattle.plan.specs.declared.Kind.TheVariants.{Unshown, Same, Signed, Unsigned, Truth, Decimal, Hex, Base64}
 

@@ -1,4 +1,6 @@
 // What is to be written for a value: its token's kind of text, and from it and the payload a plan (01, "Text of a value").
+#![tactic(auto)]
+
 ghost use Rattle.std.specs.Prelude.{◌≡◌, false, true, ◌+◌, ◌^◌, ◌≤◌, ◌<◌, length};
 ghost use Rattle.token.specs.Entries.{Listed};
 ghost use Rattle.token.specs.Tokens.{shape_of, longest};
@@ -10,7 +12,7 @@ ghost use Rattle.plan.specs.Plans.{Ruled, Means};
 use chunks::Chunks;
 
 // How the text of a token's values is made.
-#[derive(Drop)]
+#[derive(Clone, Copy)]
 pub enum Kind {
     // no text
     Unshown,
@@ -28,7 +30,7 @@ pub enum Kind {
 }
 
 // What is to be written for a value.
-#[derive(Drop)]
+#[derive(Clone, Copy)]
 pub enum Plan {
     // it has no text
     Nothing,

@@ -1,4 +1,6 @@
 // Lines of text in ASCII, made from the last byte to the first: a number's digits come in that order, so that none is moved.
+#![tactic(auto)]
+
 ghost use Rattle.std.specs.Prelude.{◌≡◌, ◌*◌, ◌≤◌, ◌<◌, length};
 ghost use Rattle.numeral.specs.Numeral.{digits};
 ghost use Rattle.hexadecimal.specs.Hexadecimal.{hex_digit, hex};

@@ -1,5 +1,7 @@
 // What the listing program prints, made at the end of one array from the last line to the first, so that it goes out in one
 // write and no number is moved.
+#![tactic(auto)]
+
 ghost use Rattle.std.specs.Prelude.{◌≡◌, ◌++◌, ◌+◌, ◌*◌, ◌≤◌, length, take};
 ghost use Rattle.print_lines.specs.Lines.{PutBefore};
 ghost use Rattle.print_listing.specs.Printed.{pair_lines, printed, pair_rows, FullListed};

@@ -1,4 +1,6 @@
 // What the reading program prints: the answer, and a line for each row.
+#![tactic(auto)]
+
 ghost use Rattle.std.specs.Prelude.{◌≡◌, ◌++◌, ◌+◌, ◌≤◌, length, take};
 ghost use Rattle.print_lines.specs.Lines.{PutBefore};
 ghost use Rattle.print_reading.specs.Printed.{verdict, counts, answer_line, printed};

@@ -1,4 +1,6 @@
 // The lines of the three tables, as the reading program prints them: made from the last byte to the first.
+#![tactic(auto)]
+
 ghost use Rattle.std.specs.Prelude.{◌≡◌, [], ◌++◌, ◌+◌, ◌*◌, ◌≤◌, ◌<◌, length};
 ghost use Rattle.sequences.specs.Lists.{part};
 ghost use Rattle.machine.specs.Tables.{name_rows_in, qname_rows_in, event_rows_in};

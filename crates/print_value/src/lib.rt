@@ -1,4 +1,6 @@
 // What the value program prints, made at the end of one array from the last byte to the first.
+#![tactic(auto)]
+
 ghost use Rattle.std.specs.Prelude.{◌≡◌, ◌++◌, ◌≤◌, length, take};
 ghost use Rattle.text.specs.Shows.{part_of, text_answer};
 ghost use Rattle.print_lines.specs.Lines.{PutBefore};

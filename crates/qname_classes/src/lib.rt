@@ -1,4 +1,6 @@
 // Classes of rows of qnames with equal texts, by the classes of their names: no text is compared.
+#![tactic(auto)]
+
 ghost use Rattle.std.specs.Prelude.{◌≡◌, ◌+◌, ◌*◌, ◌≤◌, ◌<◌, length, get_or};
 ghost use Rattle.sequences.specs.Arrays.{Front, Every};
 ghost use Rattle.machine.specs.Facts.{QnameFits};

@@ -1,6 +1,8 @@
 // Reads the document on standard input and prints the answer and the rows: the contract of `print_reading::print` says it byte for
 // byte. One byte more than the limit is read, so that a document over it can be answered.
 // The bytes that are read: one more than the limit.
+#![tactic(auto)]
+
 const INPUT: usize = token::LONGEST + 1;
 
 fn main() {

@@ -1,4 +1,6 @@
 // Reading: a document into three lent tables of 32-bit numbers, for any document and any tables (01, "The four jobs").
+#![tactic(auto)]
+
 ghost use Rattle.std.specs.Prelude.{◌≡◌, suc, length};
 ghost use Rattle.token.specs.Entries.{Listed};
 ghost use Rattle.machine.specs.Machine.{blank, view, started, result, run, reading, room_in, read_answer, Reads};

@@ -1,8 +1,10 @@
 // The meanings of all records as numbers, one after the other in one array, with the place where each begins and its hash. One
 // walk over the rows of events.
+#![tactic(auto)]
+
 ghost use Rattle.std.specs.Prelude.{◌≡◌, ◌+◌, ◌-◌, ◌*◌, ◌≤◌, ◌<◌, length, get_or};
 ghost use Rattle.sequences.specs.Lists.{part, units_of};
-ghost use Rattle.base64.specs.Letters.{Alphabet};
+ghost use Rattle.base64_text.specs.Letters.{Alphabet};
 ghost use Rattle.symbols.specs.Store.{PutHashed};
 ghost use Rattle.render_elements.specs.Codes.{values_end, counted_by, value_by, unless_out, row_by, depth_by, attribute_by, room_by, RowFits};
 ghost use Rattle.render_elements.specs.Effects.{RowPut, RowDone};
@@ -46,7 +48,7 @@ fn put_chunk(doc: &[u8], syms: &mut [u32], p: Progress, place: usize, units: usi
 
 // XSD-QNAME or another value; nothing for a byte that is no token, nor within a skipped attribute.
 fn put_valued(
-    alphabet: &[u8; base64::LETTER_COUNT],
+    alphabet: &[u8; base64_text::LETTER_COUNT],
     doc: &[u8],
     marks: &[u32; token::QNAME_ROWS],
     syms: &mut [u32],
@@ -75,7 +77,7 @@ fn put_valued(
 
 // A value, within a record and outside of a skipped attribute.
 fn put_value(
-    alphabet: &[u8; base64::LETTER_COUNT],
+    alphabet: &[u8; base64_text::LETTER_COUNT],
     doc: &[u8],
     marks: &[u32; token::QNAME_ROWS],
     syms: &mut [u32],
@@ -111,7 +113,7 @@ fn put_value(
 
 // Any row but ELEMENT's and ENDELEMENT's.
 fn put_other(
-    alphabet: &[u8; base64::LETTER_COUNT],
+    alphabet: &[u8; base64_text::LETTER_COUNT],
     doc: &[u8],
     marks: &[u32; token::QNAME_ROWS],
     syms: &mut [u32],
@@ -138,7 +140,7 @@ fn put_other(
 
 // Row k, of which the token and the first number were read.
 fn put_row(
-    alphabet: &[u8; base64::LETTER_COUNT],
+    alphabet: &[u8; base64_text::LETTER_COUNT],
     doc: &[u8],
     events: &[u32],
     marks: &[u32; token::QNAME_ROWS],
@@ -186,7 +188,7 @@ pub fn render(
     ensures { Rendered doc.now names.now qnames.now events.now rows qrows count
         syms.new starts.new hashes.new result }
 {
-    let alphabet = base64::alphabet();
+    let alphabet = base64_text::alphabet();
     let mut marks = [1u32; token::QNAME_ROWS];
     marks::fill(doc, names, qnames, classes, rows, qrows, &mut marks);
     let mut k = 0;

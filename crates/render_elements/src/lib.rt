@@ -1,4 +1,6 @@
 // What elements and attributes add to the numbers of a record, and where a record begins.
+#![tactic(auto)]
+
 ghost use Rattle.std.specs.Prelude.{◌≡◌, cond, [], ◌∷◌, ◌++◌, ◌+◌, ◌-◌, ◌≤◌, ◌<◌, leb, length};
 ghost use Rattle.meaning.specs.Codes.{mark, attribute_kind, end_kind};
 ghost use Rattle.symbols.specs.Store.{PutHashed};
@@ -21,7 +23,7 @@ pub const SKIPPED_OPEN: usize = 2;
 
 // What the walk knows: the place of the next number and the hash of the record's numbers so far; how many records have
 // begun; how many elements are open; and the open attribute.
-#[derive(Drop)]
+#[derive(Clone, Copy)]
 pub struct Progress {
     pub at: usize,
     pub hash: u64,

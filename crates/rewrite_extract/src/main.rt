@@ -1,5 +1,7 @@
 // Rewrites the document on standard input to its canonical form on standard output. A refusal writes nothing there, and one
 // line `refused C at N` to standard error. One byte more than the limit is read, so that a document over it can be answered.
+#![tactic(auto)]
+
 use libc::STDERR_FILENO;
 use rewriter_contract::Answer;
 

@@ -1,5 +1,7 @@
 // Rewriting: a document into its canonical form, for any document, tables and output (01, "The four jobs"). One walk over the
 // rows of events, run twice: over no output it measures the form, then it writes it.
+#![tactic(auto)]
+
 ghost use Rattle.std.specs.Prelude.{◌≡◌, ◌+◌, ◌*◌, ◌≤◌, ◌<◌, length, get_or};
 ghost use Rattle.token.specs.Entries.{Listed};
 ghost use Rattle.token.specs.Tokens.{event_width, event_rows, nested_documents};

@@ -1,6 +1,8 @@
 // Runs reading into small tables: each line of standard input is a document in hexadecimal and the lengths of three
 // tables. It is written again, followed by what reading answers and by the rows; `changed` where a number past the rows
 // is no longer what stood there.
+#![tactic(auto)]
+
 ghost use Rattle.std.specs.Prelude.{◌+◌, ◌≤◌, ◌<◌, length};
 
 use libc::STDOUT_FILENO;

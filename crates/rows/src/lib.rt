@@ -1,5 +1,7 @@
 // Rows by number, what reading writes (a row of each table, a row's number on a stack, a frame), and the view after each kind of
 // step.
+#![tactic(auto)]
+
 ghost use Rattle.std.specs.Prelude.{◌≡◌, ◌+◌, ◌*◌, ◌≤◌, ◌<◌, length, set};
 ghost use Rattle.rows.specs.Tables.{put2, put3, put4, put6, row_at, moved, evented, named, qnamed, flushed, entered, element_closed, inside, outside, frame_numbers};
 ghost use Rattle.modes.specs.Modes.{after_metadata};

@@ -1,4 +1,6 @@
 // The value rules (01, "Document rules"): whether a payload obeys the rule of its shape.
+#![tactic(auto)]
+
 ghost use Rattle.std.specs.Prelude.{◌≡◌, ◌+◌, ◌≤◌, ◌<◌, length};
 ghost use Rattle.sequences.specs.Lists.{part};
 ghost use Rattle.rules.specs.Rules.{decimal_size, decimal_lawful, time_bytes, day_within, zone_lawful, time_lawful, zoned_lawful, lawful};

@@ -1,5 +1,7 @@
 // The token at a place: whether it may stand there, its fields, its payload, and what refuses it, in 01's order.
 // Nothing is written here: a step says what reading has to do.
+#![tactic(auto)]
+
 ghost use Rattle.std.specs.Prelude.{◌≡◌, ◌<◌, length};
 ghost use Rattle.token.specs.Entries.{Listed};
 ghost use Rattle.scan.specs.Steps.{class_step, token_step, declared_step, end_step, step_at};
@@ -11,7 +13,7 @@ use token::{Class, NameNumber, QnameNumber};
 mod tokens;
 
 // The rows that each table holds.
-#[derive(Drop)]
+#[derive(Clone, Copy)]
 pub struct Room {
     pub names: usize,
     pub qnames: usize,
@@ -19,7 +21,7 @@ pub struct Room {
 }
 
 // What a token does. An event's place is that of the token.
-#[derive(Drop)]
+#[derive(Clone, Copy)]
 pub enum Step {
     Stop {
         number: u32,
@@ -170,7 +172,7 @@ fn declared_step(doc: &[u8], v: View, room: Room, byte: u8) -> Step
     )
 }
 
-fn end_step_fact(size: usize, v: View) -> Step
+fn end_step(size: usize, v: View) -> Step
     ensures { result ≡ end_step size v }
 {
     let mode = v.mode;
@@ -197,7 +199,7 @@ pub fn step_at(table: &[u16; 256], doc: &[u8], v: View, room: Room) -> Step
 {
     let at = v.at;
     if doc.len() <= at {
-        return end_step_fact(doc.len(), v);
+        return end_step(doc.len(), v);
     }
     let mode = v.mode;
     if modes::AFTER_XMLDECL <= modes::mode_number(mode) {

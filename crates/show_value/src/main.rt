@@ -2,6 +2,8 @@
 // for byte what is printed. The input holds the token, the longest payload, and one byte more, so that a longer one can be
 // answered.
 // The bytes that are read: the token, and one byte more than the longest payload.
+#![tactic(auto)]
+
 const INPUT: usize = token::LONGEST + 2;
 
 fn main() {

@@ -1,4 +1,6 @@
 // Elements and parts of lent slices.
+#![tactic(auto)]
+
 ghost use Rattle.std.specs.Prelude.{◌≡◌, ◌<◌, min, length, get_or};
 ghost use Rattle.sequences.specs.Lists.{same};
 

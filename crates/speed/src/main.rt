@@ -1,6 +1,8 @@
 // Does a job so many times on one file and writes a sum over its results: for counting instructions (docs/PERFORMANCE.md).
 // The arguments are the job, the number of times and the file's name. Where two jobs are in one program the compiler does not
 // inline what both call, and counts are up to 17 % higher: the script `count` puts the call of one job in `main`.
+#![tactic(auto)]
+
 use libc::STDOUT_FILENO;
 use text::Shown;
 

@@ -1,4 +1,6 @@
 // What each step does: its row, the stacks and the frames, and the view after it.
+#![tactic(auto)]
+
 ghost use Rattle.std.specs.Prelude.{◌≡◌, ◌+◌, ◌*◌, ◌≤◌, ◌<◌, length, get_or, set};
 ghost use Rattle.scan.specs.Bounds.{Fine};
 ghost use Rattle.modes.specs.Modes.{after_misc};

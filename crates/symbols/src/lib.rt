@@ -1,10 +1,12 @@
 // Numbers into the array of a record's meaning, one after the other, with the hash of what was written: single ones, units of a text,
 // marks of bytes, and values.
+#![tactic(auto)]
+
 ghost use Rattle.std.specs.Prelude.{◌≡◌, true, [], ◌∷◌, map, ◌+◌, ◌*◌, ◌≤◌, ◌<◌, length};
 ghost use Rattle.sequences.specs.Lists.{units_of};
 ghost use Rattle.token.specs.Tokens.{shape_of, longest};
 ghost use Rattle.rules.specs.Rules.{lawful};
-ghost use Rattle.base64.specs.Letters.{Alphabet};
+ghost use Rattle.base64_text.specs.Letters.{Alphabet};
 ghost use Rattle.plan.specs.Text.{text_of};
 ghost use Rattle.plan.specs.Plans.{units_by, NumberFits, PayloadFits};
 ghost use Rattle.units.specs.Units.{Loaded};
@@ -25,7 +27,7 @@ const TOKEN_MARK: u32 = meaning::FIRST_MARK + meaning::TOKEN_KIND;
 const BYTE_MARK: u32 = meaning::FIRST_MARK + meaning::BYTE_KIND;
 
 // The place of the next number, and the hash of the record's numbers before it.
-#[derive(Drop)]
+#[derive(Clone, Copy)]
 pub struct Cursor {
     pub at: usize,
     pub hash: u64,
@@ -110,7 +112,7 @@ fn put_value(token: u8, payload: &[u8], syms: &mut [u32], p: Cursor) -> Cursor
 
 // The units of a text that is made, one by one: n of them; small and from are as `load` leaves them.
 fn put_made(
-    alphabet: &[u8; base64::LETTER_COUNT],
+    alphabet: &[u8; base64_text::LETTER_COUNT],
     plan: Plan,
     payload: &[u8],
     small: &[u8; numeral::SMALL_BYTES],
@@ -140,7 +142,7 @@ fn put_made(
 
 // A text that is made of a blob, unit by unit. The small buffer is that of a number's text and is not read.
 fn put_blob(
-    alphabet: &[u8; base64::LETTER_COUNT],
+    alphabet: &[u8; base64_text::LETTER_COUNT],
     plan: Plan,
     payload: &[u8],
     syms: &mut [u32],
@@ -194,7 +196,7 @@ fn way_of(plan: Plan) -> u8
 
 // A value that obeys its token's rule: the units of its text, or its mark and bytes.
 pub fn put_payload(
-    alphabet: &[u8; base64::LETTER_COUNT],
+    alphabet: &[u8; base64_text::LETTER_COUNT],
     token: u8,
     payload: &[u8],
     syms: &mut [u32],

@@ -1,11 +1,13 @@
 // The text of a value (01, "Text of a value"): a token byte and a payload into UTF-16LE text, written into a lent buffer
 // or read unit by unit. What is to be written is found out first, as a plan; then the room is tested, then bytes are written.
+#![tactic(auto)]
+
 ghost use Rattle.std.specs.Prelude.{◌≡◌, ◌+◌, ◌*◌, ◌^◌, ◌≤◌, ◌<◌, length, take};
 ghost use Rattle.numeral.specs.Numeral.{numeral, truth};
 ghost use Rattle.numeral.specs.Puts.{small_units, small_bytes};
 ghost use Rattle.chunks.specs.Chunks.{chunks_value, Chunked};
 ghost use Rattle.hexadecimal.specs.Hexadecimal.{hex};
-ghost use Rattle.base64.specs.Base64.{base64};
+ghost use Rattle.base64_text.specs.Base64.{base64};
 ghost use Rattle.plan.specs.Text.{shown};
 ghost use Rattle.text.specs.Shows.{Shows, part_of};
 ghost use Rattle.text.specs.Lays.{Lays, LaysEnd};
@@ -15,7 +17,7 @@ use chunks::Chunks;
 use plan::Plan;
 
 // What showing a value answers, with the length of the text in bytes.
-#[derive(Drop)]
+#[derive(Clone, Copy)]
 pub enum Shown {
     // the payload is the text
     Own(usize),
@@ -83,7 +85,7 @@ fn show_base64(p: &[u8], buffer: &mut [u8]) -> Shown
     if buffer.len() < size {
         return Shown::Short(size);
     }
-    base64::base64_into(p, buffer);
+    base64_text::base64_into(p, buffer);
     Shown::Made(size)
 }
 

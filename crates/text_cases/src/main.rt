@@ -1,5 +1,7 @@
 // Runs cases of value text. The arguments name files with one case to a line: a token, a payload, the size of a buffer and the
 // expected answer. Each line is written again with the answer that `show` and `part` give, so that the output equals the files.
+#![tactic(auto)]
+
 ghost use Rattle.std.specs.Prelude.{◌≤◌, ◌<◌};
 
 use text::Shown;

@@ -1,5 +1,7 @@
 // The tokens of the format: each token's class and the shape of its payload, by one table of 256 entries, indexed by the
 // token byte (004, section 2; 01, "Document rules"). Also the limits and the answer numbers, by name.
+#![tactic(auto)]
+
 ghost use Rattle.std.specs.Prelude.{◌≡◌};
 ghost use Rattle.token.specs.Tokens.{class_of, shape_of};
 ghost use Rattle.token.specs.Entries.{Listed, class_in, shape_in};
@@ -99,14 +101,14 @@ pub const NO_TEXT: u32 = 12;
 pub const FORM_TOO_LONG: u32 = 13;
 
 // A name's number and a qname's number, counted apart in each document. Two types, so that neither is taken for the other.
-#[derive(Drop)]
+#[derive(Clone, Copy)]
 pub struct NameNumber(pub usize);
 
-#[derive(Drop)]
+#[derive(Clone, Copy)]
 pub struct QnameNumber(pub usize);
 
 // What a token byte is. A value of version 2 has a class of its own.
-#[derive(Drop)]
+#[derive(Clone, Copy)]
 pub enum Class {
     Unknown,
     Value,
@@ -134,7 +136,7 @@ pub enum Class {
 }
 
 // What follows a token as its payload.
-#[derive(Drop)]
+#[derive(Clone, Copy)]
 pub enum Shape {
     // no payload: nothing follows, or fields that are read one by one
     Nothing,

@@ -2,6 +2,8 @@
 // The hash of each part is lent. A part is compared with later parts of its slot only, by the hashes first, and equal hashes
 // are confirmed by comparing the numbers: the work grows with the numbers and the pairs where the hashes differ, and the
 // results do not depend on the hash.
+#![tactic(auto)]
+
 ghost use Rattle.std.specs.Prelude.{◌≡◌, map, cond, ◌+◌, ◌*◌, ◌%◌, ◌<◌, ◌≤◌, length, get_or, leb};
 ghost use Rattle.std.proofs.lemmas.List.Edits.{sets};
 ghost use Rattle.sequences.specs.Lists.{overlay, same};

@@ -13,9 +13,9 @@ use Rattle.chunks.specs.Chunks.{chunks_value}
 use Rattle.numeral.specs.Puts.{Ends}
 use Rattle.chunks.specs.declared.Chunks.{Chunks}
 use Rattle.hexadecimal.specs.Hexadecimal.{hex}
-use Rattle.base64.specs.Base64.{base64}
+use Rattle.base64_text.specs.Base64.{base64}
 use Rattle.hexadecimal.proofs.Hex.{length_hex}
-use Rattle.base64.proofs.Base64.{length_base64}
+use Rattle.base64_text.proofs.Base64.{length_base64}
 use Rattle.plan.specs.declared.Plan.{Plan}
 use Rattle.plan.specs.declared.Plan.TheVariants.{Nothing, Payload, Number, Boolean, HexDigits, Base64Letters}
 use Rattle.plan.specs.Plans.{units_by, NumberFits, PayloadFits}

@@ -1,9 +1,11 @@
 // The text of a value as a stream of 16-bit units, from its plan: how many there are, and unit k.
+#![tactic(auto)]
+
 ghost use Rattle.std.specs.Prelude.{◌≡◌, ◌+◌, ◌*◌, ◌≤◌, ◌<◌, length, get_or};
 ghost use Rattle.numeral.specs.Numeral.{numeral};
 ghost use Rattle.numeral.specs.Puts.{small_units, small_bytes};
-ghost use Rattle.base64.specs.Base64.{base64};
-ghost use Rattle.base64.specs.Letters.{Alphabet};
+ghost use Rattle.base64_text.specs.Base64.{base64};
+ghost use Rattle.base64_text.specs.Letters.{Alphabet};
 ghost use Rattle.plan.specs.Plans.{units_by, NumberFits, PayloadFits};
 ghost use Rattle.units.specs.Units.{UnitsBegin, Loaded};
 
@@ -57,7 +59,7 @@ fn unit_of(p: &[u8], at: usize) -> u16
 
 // Unit k of the text, in constant time; `alphabet` is that of Base64, and `small` and `at` are as `load` left them.
 pub fn unit(
-    alphabet: &[u8; base64::LETTER_COUNT],
+    alphabet: &[u8; base64_text::LETTER_COUNT],
     plan: Plan,
     payload: &[u8],
     small: &[u8; numeral::SMALL_BYTES],
@@ -78,6 +80,6 @@ pub fn unit(
         } => unit_of(small, 2 * at + 2 * k),
         Plan::Boolean(_) => unit_of(small, 2 * at + 2 * k),
         Plan::HexDigits => hexadecimal::hex_unit(payload, k),
-        Plan::Base64Letters => base64::base64_unit(alphabet, payload, k),
+        Plan::Base64Letters => base64_text::base64_unit(alphabet, payload, k),
     }
 }

@@ -1,5 +1,7 @@
 // A token's payload: where it lies in the document, where the next token starts, and the value rules
 // (01, "Document rules"; 004, sections 2.3 and 2.4).
+#![tactic(auto)]
+
 ghost use Rattle.std.specs.Prelude.{◌≡◌, ◌+◌, ◌≤◌, ◌<◌, length};
 ghost use Rattle.token.specs.Tokens.{mb32};
 ghost use Rattle.number.specs.Number.{number_at};
@@ -9,7 +11,7 @@ ghost use Rattle.value.specs.Bounds.{Halved, Lies, Inside};
 use number::Number;
 use token::{QnameNumber, Shape};
 
-#[derive(Drop)]
+#[derive(Clone, Copy)]
 pub enum Field {
     // the payload; the next token starts after it
     Payload { place: usize, size: usize },
@@ -19,7 +21,7 @@ pub enum Field {
 }
 
 // The units of a text: where they lie, and how many.
-#[derive(Drop)]
+#[derive(Clone, Copy)]
 pub enum Text {
     Is { place: usize, units: usize },
     Refused { number: u32, place: usize },
@@ -43,7 +45,7 @@ fn needed_at(doc: &[u8], place: usize, size: usize) -> Field
 }
 
 // The text whose length stands at a place, in a number of at most `most` bytes.
-pub fn text_at_fact(doc: &[u8], at: usize, most: usize) -> Text
+pub fn text_at(doc: &[u8], at: usize, most: usize) -> Text
     ensures { (result ≡ text_at most doc.now at) × Lies (length doc.now) at result }
 {
     match number::read(doc, at, most) {
@@ -148,7 +150,7 @@ fn extent_at(shape: Shape, doc: &[u8], at: usize) -> Field
     match shape {
         Shape::Nothing => needed_at(doc, at + 1, 0),
         Shape::Fixed(size) => needed_at(doc, at + 1, size),
-        Shape::Text(most) => text_payload(text_at_fact(doc, at + 1, most)),
+        Shape::Text(most) => text_payload(text_at(doc, at + 1, most)),
         Shape::Blob(most) => blob_at(doc, at + 1, most),
         Shape::CodePage(most) => blob_at(doc, at + 1, most),
         Shape::Decimal => decimal_at(doc, at),

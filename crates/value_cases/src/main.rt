@@ -1,5 +1,7 @@
 // Runs the worked cases of numbers and values: each line of standard input is a token and what follows it, in
 // hexadecimal; it is written again with what the token carries.
+#![tactic(auto)]
+
 ghost use Rattle.token.specs.Entries.{Listed};
 ghost use Rattle.std.specs.Prelude.{◌<◌, length};
 

@@ -1,0 +1,31 @@
+use Prim.Native.Nat.{◌-◌, ◌*◌, ◌≤◌}
+use Rattle.base64_text.proofs.Base64.{groups_none, groups_next}
+use Rattle.base64_text.specs.Base64.{base64}
+use Rattle.sequences.specs.Lists.{bytes_of}
+use borrow.Author.Rules.{rules}
+use lib.ListN.{length, take}
+use lib.Seq.{sets, length-sets}
+use mathlib.Core.Path.{◌≡◌, ◌∙◌, ap}
+use native.Mathlib.Omega.{arith}
+use Rattle.base64_text.proofs.put_groups.Goals as goal
+
+pub loop-k-init : goal.loop-k-init
+loop-k-init c = (omega arith, groups_none _)
+
+pub put_three-requires : goal.put_three-requires
+put_three-requires c =
+    (c.requires.0, omega (arith, simp length-sets at (ap length c.loop-k.invariant.1)))
+
+pub loop-k-preserved : goal.loop-k-preserved
+loop-k-preserved c =
+    (
+      omega arith,
+      groups_next c.args.p.now _ c.loop-k.k (omega arith)
+          c.loop-k.invariant.1 c.put_three.ensures,
+    )
+
+pub shape_of-out : goal.shape_of-out
+shape_of-out c = ap length c.loop-k.invariant.1 ∙ simp length-sets
+
+pub returns : goal.returns
+returns c = let e : c.loop-k.k ≡ c.args.n = omega arith in rw e at c.loop-k.invariant.1

@@ -1,0 +1,17 @@
+-- `base64_text::put_groups` meets its contract. The invariant: the text of the first `k` groups is stored at the front.
+use Prim.Native.Nat.{◌-◌, ◌*◌, ◌≤◌}
+use Rattle.base64_text.proofs.Base64.{groups_none, groups_next}
+use Rattle.base64_text.specs.Base64.{base64}
+use Rattle.sequences.specs.Lists.{bytes_of}
+use borrow.Author.Rules.{rules}
+use lib.ListN.{length, take}
+use lib.Seq.{sets, length-sets}
+use mathlib.Core.Path.{◌≡◌, ◌∙◌, ap}
+use native.Mathlib.Omega.{arith}
+use Rattle.base64_text.proofs.put_groups.Given as goal
+
+abbrev pub invariant-loop-k : goal.invariant-loop-k
+invariant-loop-k l = (l.k ≤ l.n) × (l.out ≡ sets l.initial.out 0 (bytes_of (base64 (take (3 * l.k) l.p))))
+
+abbrev pub decreases-loop-k : goal.decreases-loop-k
+decreases-loop-k l = l.n - l.k

@@ -1,0 +1,9 @@
+-- `chunks::of_limbs` meets its contract. Assumes nothing.
+use Rattle.chunks.proofs.Division.{chunks}
+use borrow.Author.Rules.{rules}
+use Rattle.chunks.proofs.of_limbs.Goals as goal
+
+pub returns : goal.returns
+returns c =
+    chunks c.requires c.divide-s.ensures c.divide-t.ensures
+    c.divide-u.ensures c.divide-v.ensures

@@ -1,0 +1,10 @@
+-- `instant::date_at` meets its contract: whole days, and what is left of them. Assumes nothing.
+use Rattle.instant.proofs.Ways.{dated_none, dated_at}
+use borrow.Author.Rules.{rules}
+use Rattle.instant.proofs.date_at.Goals as goal
+
+pub returns-then-day : goal.returns-then-day
+returns-then-day c = dated_none _ _ c.per_day-whole.ensures.0 c.if-day.true
+
+pub returns : goal.returns
+returns c = dated_at _ _ c.per_day-whole.ensures.0 c.if-day.false
