@@ -73,6 +73,7 @@ bytes_split (x ∷ p) (y ∷ q) r s f g e =
     (cc, i.1)
 
 every_in : {A : Type 0} {P : A → Type 0} {l : List A} {x : A} → Every P l → In x l → P x
+every_in {A = A} {P = P} none x6 = elim x6 [ ]
 every_in (first h hs) here = h
 every_in (first h hs) (there i) = every_in hs i
 

@@ -1,0 +1,13 @@
+-- `name_classes::same_row` meets its contract: equal texts have equal hashes. Assumes nothing.
+use Rattle.classes.specs.Search.{row_text_at}
+use Rattle.name_classes.proofs.Texts.{texts_differ}
+use borrow.Author.Rules.{rules}
+use Rattle.name_classes.proofs.same_row.Goals as goal
+
+pub returns-then-hashes-j : goal.returns-then-hashes-j
+returns-then-hashes-j c =
+    let text = row_text_at c.args.doc.now c.args.names.now in
+    texts_differ (text c.args.j) (text c.args.r) _ _ (c.requires.2 _ c.requires.1) c.requires.3 c.if-hashes-j.true
+
+pub returns : goal.returns
+returns c = rw (← c.row_text.ensures, ← c.row_text-2.ensures) c.same_bytes.ensures

@@ -1,0 +1,15 @@
+-- `print_rows::put_lines` meets its contract. The loop's invariant is `RowsSoFar`. Assumes nothing.
+use Prim.Native.Nat.{◌-◌, ◌≤◌}
+use Rattle.print_lines.proofs.Laws.{both_put}
+use Rattle.print_rows.proofs.Rows.{RowsSoFar, rows_start, rows_next, room_from, times_less, lines_from, lines_none, lines_next, lines_end}
+use Rattle.print_rows.specs.Table.{line_room}
+use borrow.Author.Rules.{rules}
+use native.Mathlib.Nat.{mul-le-mul, mul-le-mul_left}
+use native.Mathlib.Omega.{arith}
+use Rattle.print_rows.proofs.put_lines.Given as goal
+
+abbrev pub invariant-loop-k : goal.invariant-loop-k
+invariant-loop-k l = RowsSoFar (lines_from l.word l.width l.table l.rows) (room_from (line_room l.word l.width) l.end l.rows) l.initial.text l.text l.end l.rows l.at l.k
+
+abbrev pub decreases-loop-k : goal.decreases-loop-k
+decreases-loop-k l = l.k

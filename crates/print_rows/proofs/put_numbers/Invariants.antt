@@ -1,0 +1,17 @@
+-- `print_rows::put_numbers` meets its contract: a line feed, and the numbers from the last to the first. Assumes nothing.
+use Prim.Native.Nat.{◌-◌, ◌*◌}
+use Rattle.print_lines.proofs.Laws.{both_put}
+use Rattle.print_lines.specs.Lines.{field}
+use Rattle.print_rows.proofs.Fields.{field_short}
+use Rattle.print_rows.proofs.Rows.{RowsSoFar, rows_start, rows_next, numbers_from, numbers_none, numbers_next, numbers_end}
+use borrow.Author.Rules.{rules}
+use mathlib.Core.List.{[], ◌∷◌}
+use mathlib.Core.Path.{◌∙◌}
+use native.Mathlib.Omega.{arith}
+use Rattle.print_rows.proofs.put_numbers.Given as goal
+
+abbrev pub invariant-loop-k : goal.invariant-loop-k
+invariant-loop-k l = RowsSoFar (numbers_from l.table l.from l.count) (λ j. l.initial.at - 11 * (l.count - j)) l.initial.text l.text l.initial.at l.count l.at l.k
+
+abbrev pub decreases-loop-k : goal.decreases-loop-k
+decreases-loop-k l = l.k

@@ -1,0 +1,7 @@
+-- `print_value::blank` has its length. Assumes nothing.
+use Prim.Native.Nat.{ℕ}
+use lib.ListN.{length-replicate}
+use Rattle.print_value.proofs.blank.Goals as goal
+
+pub returns : goal.returns
+returns c = length-replicate {A = ℕ} 524483 0

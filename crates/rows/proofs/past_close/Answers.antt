@@ -1,0 +1,6 @@
+-- `rows::past_close` meets its contract. Assumes nothing.
+use borrow.Author.Rules.{rules}
+use Rattle.rows.proofs.past_close.Goals as goal
+
+pub returns : goal.returns
+returns c = rw c.past_event-w.ensures

@@ -1,0 +1,16 @@
+-- `twins::link` meets its contract. The loop's invariant is `State`: what the arrays hold when the parts from i on are done.
+use Prim.Native.Nat.{ℕ, ◌+◌, ◌-◌, ◌%◌, ◌<◌}
+use Rattle.twins.proofs.State.{State, moved, begun, turned, finished, turn_few, later_few}
+use Rattle.twins.specs.Parts.{part_at}
+use borrow.Author.Rules.{rules}
+use lib.ListN.{length-replicate, get_or, get_or-replicate}
+use mathlib.Core.Path.{refl}
+use native.Mathlib.Omega.{arith}
+use Rattle.twins.proofs.link.Given as goal
+
+abbrev pub invariant-loop-i : goal.invariant-loop-i
+invariant-loop-i l =
+    State (part_at l.syms l.starts) l.n l.i l.next l.slots l.chain l.later l.pairs
+
+abbrev pub decreases-loop-i : goal.decreases-loop-i
+decreases-loop-i l = l.i
