@@ -66,19 +66,19 @@ blob_length (Date first last) p h = absurd h
 blob_length (Time first last) p h = absurd h
 blob_length (ZonedTime first last) p h = absurd h
 
-no_length : (s : Shape) (p : List ℕ) → T (among (0 ∷ 1 ∷ 6 ∷ 7 ∷ 8 ∷ 9 ∷ 10 ∷ []) (tag_of the_type s)) → length_of s p ≡ []
+no_length : (s : Shape) (p : List ℕ) → ((x : ℕ) → s ≡ Text x → ⊥) → ((x : ℕ) → s ≡ Blob x → ⊥) → ((x : ℕ) → s ≡ CodePage x → ⊥) → (s ≡ Decimal → ⊥) → length_of s p ≡ []
 unfolding length_of
-no_length Nothing p h = refl
-no_length (Fixed size) p h = refl
-no_length (Text most) p h = absurd h
-no_length (Blob most) p h = absurd h
-no_length (CodePage most) p h = absurd h
-no_length Decimal p h = absurd h
-no_length Qname p h = refl
-no_length (Stamp low) p h = refl
-no_length (Date first last) p h = refl
-no_length (Time first last) p h = refl
-no_length (ZonedTime first last) p h = refl
+no_length Nothing p t b k d = refl
+no_length (Fixed size) p t b k d = refl
+no_length (Text most) p t b k d = absurd (t most refl)
+no_length (Blob most) p t b k d = absurd (b most refl)
+no_length (CodePage most) p t b k d = absurd (k most refl)
+no_length Decimal p t b k d = absurd (d refl)
+no_length Qname p t b k d = refl
+no_length (Stamp low) p t b k d = refl
+no_length (Date first last) p t b k d = refl
+no_length (Time first last) p t b k d = refl
+no_length (ZonedTime first last) p t b k d = refl
 
 -- the number that stands before a part of a document as a payload of this shape
 module _ (s : Shape) (doc : List ℕ) (place size : ℕ) (h : place + size ≤ length doc) where
@@ -88,8 +88,8 @@ module _ (s : Shape) (doc : List ℕ) (place size : ℕ) (h : place + size ≤ l
   pub of_blob : OneOf (3 ∷ 4 ∷ 5 ∷ []) (tag_of the_type s) → length_of s (part doc place size) ≡ shortest size
   of_blob k = blob_length s (part doc place size) (one_of (3 ∷ 4 ∷ 5 ∷ []) (tag_of the_type s) k) ∙ ap shortest (part_length doc place size h)
 
-  pub of_others : OneOf (0 ∷ 1 ∷ 6 ∷ 7 ∷ 8 ∷ 9 ∷ 10 ∷ []) (tag_of the_type s) → length_of s (part doc place size) ≡ []
-  of_others k = no_length s (part doc place size) (one_of (0 ∷ 1 ∷ 6 ∷ 7 ∷ 8 ∷ 9 ∷ 10 ∷ []) (tag_of the_type s) k)
+  pub of_others : ((x : ℕ) → s ≡ Text x → ⊥) → ((x : ℕ) → s ≡ Blob x → ⊥) → ((x : ℕ) → s ≡ CodePage x → ⊥) → (s ≡ Decimal → ⊥) → length_of s (part doc place size) ≡ []
+  of_others t b k d = no_length s (part doc place size) t b k d
 
 -- the same room and the same bytes, with that number
 pub value_fits : {room at : ℕ} (size : ℕ) {u w : List ℕ} → u ≡ w → Fits room at (length u + size) → Fits room at (length w + size)

@@ -4,12 +4,7 @@ use Prim.Native.Nat.{ℕ, zero, suc, ◌+◌, ◌≤◌, ◌<◌}
 use mathlib.Core.Path.{◌≡◌, refl, sym, ◌∙◌, subst}
 use mathlib.Core.List.{List, [], ◌∷◌}
 use native.Mathlib.Omega.{arith}
-use lib.Dec.{T}
 use lib.ListN.{length}
-use types.Run.{OneOf}
-use denote.Enum.Declared.{tag_of}
-use Rattle.sequences.proofs.Match.{among, one_of}
-use Rattle.scan.specs.contracts.Step.{the_type}
 use Rattle.scan.specs.Bounds.{Fine}
 use Rattle.scan.specs.Steps.{step_at}
 use Rattle.modes.specs.declared.View.{View}
@@ -22,22 +17,19 @@ use Rattle.steps.proofs.Keeps.{Stored, Kept, keep, same_lengths}
 use Rattle.machine.proofs.Goes.{Goes, passes, stepped, stopped}
 
 -- a step whose tag is not that of `Stop`
-goes_by : (x : Step) → T (among (1 ∷ 2 ∷ 3 ∷ 4 ∷ 5 ∷ 6 ∷ 7 ∷ 8 ∷ 9 ∷ 10 ∷ 11 ∷ []) (tag_of the_type x)) → Goes x
-goes_by (step.Stop number place) h = absurd h
-goes_by (step.Name place units next) h = tt
-goes_by (step.Qname uri prefix local next) h = tt
-goes_by (step.Skip next) h = tt
-goes_by (step.Flush next) h = tt
-goes_by (step.Event token a b mode next) h = tt
-goes_by (step.Refer token number mode next) h = tt
-goes_by (step.Open number next) h = tt
-goes_by (step.Pi target start next) h = tt
-goes_by (step.Close next) h = tt
-goes_by (step.Nest version next) h = tt
-goes_by (step.Leave next) h = tt
-
-pub goes : (x : Step) → OneOf (1 ∷ 2 ∷ 3 ∷ 4 ∷ 5 ∷ 6 ∷ 7 ∷ 8 ∷ 9 ∷ 10 ∷ 11 ∷ []) (tag_of the_type x) → Goes x
-goes x h = goes_by x (one_of (1 ∷ 2 ∷ 3 ∷ 4 ∷ 5 ∷ 6 ∷ 7 ∷ 8 ∷ 9 ∷ 10 ∷ 11 ∷ []) (tag_of the_type x) h)
+pub goes : (x : Step) → ((number place : ℕ) → x ≡ step.Stop number place → ⊥) → Goes x
+goes (step.Stop number place) h = absurd (h number place refl)
+goes (step.Name place units next) h = tt
+goes (step.Qname uri prefix local next) h = tt
+goes (step.Skip next) h = tt
+goes (step.Flush next) h = tt
+goes (step.Event token a b mode next) h = tt
+goes (step.Refer token number mode next) h = tt
+goes (step.Open number next) h = tt
+goes (step.Pi target start next) h = tt
+goes (step.Close next) h = tt
+goes (step.Nest version next) h = tt
+goes (step.Leave next) h = tt
 
 -- what holds at each turn of the loop
 pub record Walks (doc : List ℕ) (room : Room) (version : ℕ) (end : Result) (n₀ q₀ e₀ : List ℕ) (t : Tables) (v : View) : Type 0 where

@@ -3,7 +3,7 @@
 
 ghost use Rattle.std.specs.Prelude.{◌≡◌, suc, length};
 ghost use Rattle.token.specs.Entries.{Listed};
-ghost use Rattle.machine.specs.Machine.{blank, view, started, result, run, reading, room_in, read_answer, Reads};
+ghost use Rattle.machine.specs.Machine.{blank, view, started, result as result_of, run, reading, room_in, read_answer, Reads};
 ghost use Rattle.rows.specs.Tables.{answer_at, ReadingBegins};
 
 use common::Common;
@@ -14,7 +14,7 @@ use scan::{Room, Step};
 
 // Before the first token, which stands after the outer header.
 fn first_view(version: usize, next: usize) -> View
-    ensures* { λ r. ⌜ r ≡ view (started version next) ⌝ }
+    ensures { result ≡ view (started version next) }
 {
     View {
         at: next,
@@ -34,7 +34,7 @@ fn first_view(version: usize, next: usize) -> View
 }
 
 fn answered(v: View, number: u32, place: usize, version: usize) -> Answer
-    ensures* { λ r. ⌜ r ≡ answer_at v number place version ⌝ }
+    ensures { result ≡ answer_at v number place version }
 {
     Answer {
         number,
@@ -59,8 +59,8 @@ fn walk(
     next: usize,
 ) -> Answer
     requires { Listed table.now × ReadingBegins (length doc.now) room names.old qnames.old events.old next }
-    ensures* { λ r. ⌜ Reads (run (suc (length doc.now)) doc.now room version (started version next))
-        names.old qnames.old events.old names.new qnames.new events.new r ⌝ }
+    ensures { Reads (run (suc (length doc.now)) doc.now room version (started version next))
+        names.old qnames.old events.old names.new qnames.new events.new result }
 {
     // A first value whose bytes differ is stored by vector instructions, and one of equal bytes by a call of memset.
     let mut stack = [1u32; token::NAME_ROWS];
@@ -105,7 +105,7 @@ fn walk(
 
 // The whole rows that the lent tables hold, within the bounds.
 fn room_of(names: usize, qnames: usize, events: usize) -> Room
-    ensures* { λ r. ⌜ r ≡ room_in names qnames events ⌝ }
+    ensures { result ≡ room_in names qnames events }
 {
     Room {
         names: slices::least(names / token::NAME_WIDTH, token::NAME_ROWS),
@@ -115,7 +115,7 @@ fn room_of(names: usize, qnames: usize, events: usize) -> Room
 }
 
 fn none_read(number: u32, place: usize) -> Answer
-    ensures* { λ r. ⌜ r ≡ read_answer (result number place 0 blank) ⌝ }
+    ensures { result ≡ read_answer (result_of number place 0 blank) }
 {
     Answer {
         number,
@@ -130,8 +130,8 @@ fn none_read(number: u32, place: usize) -> Answer
 // Reads a document into the three tables. Rows completed stay after a refusal, and nothing past them is touched. Its local arrays
 // take 9 KB of the stack.
 pub fn read(doc: &[u8], names: &mut [u32], qnames: &mut [u32], events: &mut [u32]) -> Answer
-    ensures* { λ r. ⌜ Reads (reading doc.now (room_in (length names.old) (length qnames.old) (length events.old)))
-        names.old qnames.old events.old names.new qnames.new events.new r ⌝ }
+    ensures { Reads (reading doc.now (room_in (length names.old) (length qnames.old) (length events.old)))
+        names.old qnames.old events.old names.new qnames.new events.new result }
 {
     if token::LONGEST < doc.len() {
         return none_read(token::TOO_LONG, token::LONGEST);

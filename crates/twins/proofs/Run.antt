@@ -1,7 +1,7 @@
 -- The pairs of one part written along the links, and all pairs part after part. Assumes nothing.
 use Prim.Native.Nat.{ℕ, suc, ◌+◌, ◌*◌, ◌≤◌, ◌<◌}
 use mathlib.Core.Path.{◌≡◌, refl, sym, ap, ◌∙◌}
-use mathlib.Core.List.{List, [], ◌∷◌, ◌++◌, map, map_append, append_assoc, append-nil}
+use mathlib.Core.List.{List, [], ◌∷◌, ◌++◌, map, map-append, append_assoc, append-nil}
 use native.Mathlib.Omega.{arith}
 use lib.ListN.{length, set, length-append, length-map}
 use lib.Seq.{sets, length-sets}
@@ -18,7 +18,7 @@ abbrev pub run_of : ℕ → List ℕ → List ℕ
 run_of i xs = flat_pairs (map (pair i) xs)
 
 run_append : (i : ℕ) (xs ys : List ℕ) → run_of i (xs ++ ys) ≡ run_of i xs ++ run_of i ys
-run_append i xs ys = ap flat_pairs (map_append (pair i) xs ys) ∙ flat_append (map (pair i) xs) (map (pair i) ys)
+run_append i xs ys = ap flat_pairs (map-append (pair i) xs ys) ∙ flat_append (map (pair i) xs) (map (pair i) ys)
 
 run_long : (i : ℕ) (xs : List ℕ) → length (run_of i xs) ≡ 2 * length xs
 run_long i xs = flat_long (map (pair i) xs) ∙ ap (λ (x : ℕ). 2 * x) (length-map xs (pair i))

@@ -15,4 +15,4 @@ pub slice_bounds-same_bytes-end-2 : goal.slice_bounds-same_bytes-end-2
 slice_bounds-same_bytes-end-2 c = simp length-take (omega arith)
 
 pub returns : goal.returns
-returns c = xmlns_long c.LOST.args.text.now c.if-text-eq10.false _ c.same_bytes-2.ensures
+returns c = xmlns_long c.args.text.now c.if-text-eq10.false _ c.same_bytes-2.ensures

@@ -15,7 +15,7 @@ put_word-at-requires c = (omega (arith, c.requires.3), c.requires.4)
 pub loop-k-init : goal.loop-k-init
 loop-k-init c =
     let at = c.put_word-at.result in
-    rows_start (numbers_from c.args.table.now c.args.from c.args.count) (λ j. at - 11 * (c.args.count - j)) c.put_word-at.new.0 at c.args.count
+    rows_start (numbers_from c.args.table.now c.args.from c.args.count) (λ j. at - 11 * (c.args.count - j)) c.put_word-at.new.text at c.args.count
     (omega arith) (numbers_none c.args.table.now c.args.from c.args.count)
 
 pub overflow_sub-k : goal.overflow_sub-k

@@ -7,45 +7,41 @@ use mathlib.Core.Path.{◌≡◌, refl}
 use native.Mathlib.Omega.{arith}
 use Rattle.steps.proofs.turn.Goals as goal
 
--- the step that was matched is fine
-fine : (s : tie.Start) {x : Step} → s.args.step ≡ x → Fine s.args.size s.args.v s.args.room x
-fine s e = fine_at s.args.size s.args.v s.args.room e s.requires.1
-
 pub define_name-requires : goal.define_name-requires
 define_name-requires c =
-    omega (arith, c.requires.0, fine c c.in-Name.is)
+    omega (arith, c.requires.0, fine_at c.args.size c.args.v c.args.room c.in-Name.is c.requires.1)
 
 pub define_qname-requires : goal.define_qname-requires
 define_qname-requires c =
-    omega (arith, c.LOST.requires.0, fine c c.in-Qname.is)
+    omega (arith, c.requires.0, fine_at c.args.size c.args.v c.args.room c.in-Qname.is c.requires.1)
 
 pub add_event-requires : goal.add_event-requires
 add_event-requires c =
-    omega (arith, c.requires.0, fine c c.in-Event.is)
+    omega (arith, c.requires.0, fine_at c.args.size c.args.v c.args.room c.in-Event.is c.requires.1)
 
 pub add_reference-requires : goal.add_reference-requires
 add_reference-requires c =
-    omega (arith, c.LOST.requires.0, fine c c.in-Refer.is)
+    omega (arith, c.requires.0, fine_at c.args.size c.args.v c.args.room c.in-Refer.is c.requires.1)
 
 pub add_element-requires : goal.add_element-requires
 add_element-requires c =
-    omega (arith, c.LOST.requires.0, fine c c.in-Open.is)
+    omega (arith, c.requires.0, fine_at c.args.size c.args.v c.args.room c.in-Open.is c.requires.1)
 
 pub add_pi-requires : goal.add_pi-requires
 add_pi-requires c =
-    omega (arith, c.LOST.requires.0, fine c c.in-Pi.is)
+    omega (arith, c.requires.0, fine_at c.args.size c.args.v c.args.room c.in-Pi.is c.requires.1)
 
 pub close_element-requires : goal.close_element-requires
 close_element-requires c =
-    omega (arith, c.requires.0, fine c c.in-Close.is)
+    omega (arith, c.requires.0, fine_at c.args.size c.args.v c.args.room c.in-Close.is c.requires.1)
 
 pub enter_document-requires : goal.enter_document-requires
 enter_document-requires c =
-    omega (arith, c.requires.0, fine c c.in-Nest.is)
+    omega (arith, c.requires.0, fine_at c.args.size c.args.v c.args.room c.in-Nest.is c.requires.1)
 
 pub leave_document-requires : goal.leave_document-requires
 leave_document-requires c =
-    omega (arith, c.LOST.requires.0, fine c c.in-Leave.is)
+    omega (arith, c.requires.0, fine_at c.args.size c.args.v c.args.room c.in-Leave.is c.requires.1)
 
 pub returns-in-Stop : goal.returns-in-Stop
 returns-in-Stop c = rw c.in-Stop.is (record { names_are = refl; qnames_are = refl; events_are = refl; stack_is = refl; qstack_is = refl; frames_are = refl; view_is = refl })

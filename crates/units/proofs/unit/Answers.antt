@@ -7,20 +7,6 @@ use mathlib.Core.Path.{◌≡◌}
 use native.Mathlib.Omega.{arith}
 use Rattle.units.proofs.unit.Goals as goal
 
--- a unit's two bytes among those that `load` wrote
-abbrev There : tie.Start → Type 0
-There s = (2 * s.args.at + 2 * s.args.k + 1 < length s.args.small.now) × (length s.args.small.now ≡ 82)
-
-number-there : (c : tie.After-unit-of-arg) → There c.before.before.before.before
-number-there c =
-    let s = c.before.before.before.before in
-    (number_inside s.args.payload.now s.args.k s.requires.3 s.args.small.now s.args.at s.requires.2 c.before.enum-told3.given.1, s.requires.2.long)
-
-boolean-there : (c : tie.After-unit-of-arg2) → There c.before.before.before.before
-boolean-there c =
-    let s = c.before.before.before.before in
-    (boolean_inside s.args.payload.now s.args.k s.requires.3 s.args.small.now s.args.at s.requires.2 c.before.enum-told4.given.1, s.requires.2.long)
-
 pub overflow_mul-k : goal.overflow_mul-k
 overflow_mul-k c =
     let q = payload_inside c.args.payload.now c.args.k c.requires.3 c.in-Payload.is c.requires.1 in
@@ -31,28 +17,28 @@ unit_of-requires c =
     payload_inside c.args.payload.now c.args.k c.requires.3 c.in-Payload.is c.requires.1
 
 pub overflow_mul-at : goal.overflow_mul-at
-overflow_mul-at c = omega (arith, number-there c)
+overflow_mul-at c = omega (arith, number_inside c.args.payload.now c.args.k c.requires.3 c.args.small.now c.args.at c.requires.2 c.in-Number.is, c.requires.2.long)
 
 pub overflow_mul-k-in-Number : goal.overflow_mul-k-in-Number
-overflow_mul-k-in-Number c = omega (arith, number-there c)
+overflow_mul-k-in-Number c = omega (arith, number_inside c.args.payload.now c.args.k c.requires.3 c.args.small.now c.args.at c.requires.2 c.in-Number.is, c.requires.2.long)
 
 pub overflow_add-at : goal.overflow_add-at
-overflow_add-at c = omega (arith, number-there c)
+overflow_add-at c = omega (arith, number_inside c.args.payload.now c.args.k c.requires.3 c.args.small.now c.args.at c.requires.2 c.in-Number.is, c.requires.2.long)
 
 pub unit_of-requires-in-Number : goal.unit_of-requires-in-Number
-unit_of-requires-in-Number c = omega (arith, number-there c)
+unit_of-requires-in-Number c = omega (arith, number_inside c.args.payload.now c.args.k c.requires.3 c.args.small.now c.args.at c.requires.2 c.in-Number.is, c.requires.2.long)
 
 pub overflow_mul-at-in-Boolean : goal.overflow_mul-at-in-Boolean
-overflow_mul-at-in-Boolean c = omega (arith, boolean-there c)
+overflow_mul-at-in-Boolean c = omega (arith, boolean_inside c.args.payload.now c.args.k c.requires.3 c.args.small.now c.args.at c.requires.2 c.in-Boolean.is, c.requires.2.long)
 
 pub overflow_mul-k-in-Boolean : goal.overflow_mul-k-in-Boolean
-overflow_mul-k-in-Boolean c = omega (arith, boolean-there c)
+overflow_mul-k-in-Boolean c = omega (arith, boolean_inside c.args.payload.now c.args.k c.requires.3 c.args.small.now c.args.at c.requires.2 c.in-Boolean.is, c.requires.2.long)
 
 pub overflow_add-at-in-Boolean : goal.overflow_add-at-in-Boolean
-overflow_add-at-in-Boolean c = omega (arith, boolean-there c)
+overflow_add-at-in-Boolean c = omega (arith, boolean_inside c.args.payload.now c.args.k c.requires.3 c.args.small.now c.args.at c.requires.2 c.in-Boolean.is, c.requires.2.long)
 
 pub unit_of-requires-in-Boolean : goal.unit_of-requires-in-Boolean
-unit_of-requires-in-Boolean c = omega (arith, boolean-there c)
+unit_of-requires-in-Boolean c = omega (arith, boolean_inside c.args.payload.now c.args.k c.requires.3 c.args.small.now c.args.at c.requires.2 c.in-Boolean.is, c.requires.2.long)
 
 pub hex_unit-requires : goal.hex_unit-requires
 hex_unit-requires c =

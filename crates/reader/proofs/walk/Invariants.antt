@@ -1,0 +1,16 @@
+-- `reader::walk` meets its contract. The invariant: the machine's run from the state reached is the whole run (`Walks`). The measure is the bytes left. Assumes nothing.
+use Prim.Native.Nat.{ℕ, suc, ◌-◌}
+use Rattle.machine.specs.Machine.{run, started}
+use Rattle.reader.proofs.Short.{common_fine, ended, begun, valued}
+use Rattle.reader.proofs.Walks.{Walks, goes, held_here, going, nearer, ending, starting}
+use Rattle.rows.specs.Tables.{tables}
+use borrow.Author.Rules.{rules}
+use lib.ListN.{length, length-replicate}
+use native.Mathlib.Omega.{arith}
+use Rattle.reader.proofs.walk.Given as goal
+
+abbrev pub invariant-loop-events : goal.invariant-loop-events
+invariant-loop-events l = Walks l.doc l.room l.version (run (suc (length l.doc)) l.doc l.room l.version (started l.version l.next)) l.initial.names l.initial.qnames l.initial.events (tables l.names l.qnames l.events l.stack l.qstack l.frames) l.v
+
+abbrev pub decreases-loop-events : goal.decreases-loop-events
+decreases-loop-events l = length l.doc - l.v.at

@@ -1,0 +1,27 @@
+use Prim.Native.Nat.{◌≤◌, ◌+◌, ◌-◌}
+use Rattle.meaning.specs.Codes.{mark}
+use Rattle.symbols.proofs.Going.{Going, go_first, go_step, go_end, go_to}
+use Rattle.symbols.proofs.Texts.{bytes_step, bytes_end}
+use borrow.Author.Rules.{rules}
+use lib.ListN.{length, drop, length-set}
+use mathlib.Core.List.{map}
+use mathlib.Core.Path.{◌≡◌, refl}
+use native.Mathlib.Omega.{arith}
+use Rattle.symbols.proofs.put_bytes.Goals as goal
+
+pub loop-k-init : goal.loop-k-init
+loop-k-init c = (omega arith, refl, go_to (omega arith) (go_first _ _ _))
+
+pub bounds-syms-at : goal.bounds-syms-at
+bounds-syms-at c = let g = c.loop-k.invariant in omega (arith, g.1, c.loop-k-test.true, c.requires)
+
+pub loop-k-preserved : goal.loop-k-preserved
+loop-k-preserved c =
+    let g = c.loop-k.invariant in
+    (omega arith, simp length-set g.1, go_to (omega arith) (go_step g.2 _ _ _ (bytes_step _ _ _ c.loop-k-test.true c.wide32.ensures.0) c.mix-h.ensures))
+
+pub shape_of-syms : goal.shape_of-syms
+shape_of-syms c = c.loop-k.invariant.1
+
+pub returns : goal.returns
+returns c = go_end c.loop-k.invariant.2 (bytes_end _ _ c.loop-k-test.false)

@@ -1,0 +1,16 @@
+-- `symbols::put_made` meets its contract. The loop's invariant is `Going`: what is stored, what is still to come, and the hash. Assumes nothing.
+use Prim.Native.Nat.{◌≤◌, ◌+◌, ◌-◌}
+use Rattle.plan.specs.Plans.{units_by}
+use Rattle.symbols.proofs.Going.{Going, go_first, go_step, go_end, go_to}
+use Rattle.symbols.proofs.Texts.{list_step, list_end}
+use borrow.Author.Rules.{rules}
+use lib.ListN.{length, drop, length-set}
+use mathlib.Core.Path.{◌≡◌, refl, ◌∙◌}
+use native.Mathlib.Omega.{arith}
+use Rattle.symbols.proofs.put_made.Given as goal
+
+abbrev pub invariant-loop-k : goal.invariant-loop-k
+invariant-loop-k l = (l.k ≤ l.n) × (length l.syms ≡ length l.initial.syms) × Going l.initial.syms (record { at = l.at; hash = l.initial.h }) (units_by l.plan l.payload) l.syms (l.at + l.k) l.h (drop l.k (units_by l.plan l.payload))
+
+abbrev pub decreases-loop-k : goal.decreases-loop-k
+decreases-loop-k l = l.n - l.k

@@ -1,0 +1,16 @@
+-- `symbols::put_units` meets its contract. The loop's invariant is `Going`: what is stored, what is still to come, and the hash. Assumes nothing.
+use Prim.Native.Nat.{◌≤◌, ◌+◌, ◌-◌, ◌*◌, ◌/◌}
+use Rattle.sequences.proofs.Units.{unit_step, unit_end, unit_room}
+use Rattle.sequences.specs.Lists.{units_of}
+use Rattle.symbols.proofs.Going.{Going, go_first, go_step, go_end, go_to}
+use borrow.Author.Rules.{rules}
+use lib.ListN.{length, drop, length-set}
+use mathlib.Core.Path.{◌≡◌, refl}
+use native.Mathlib.Omega.{arith}
+use Rattle.symbols.proofs.put_units.Given as goal
+
+abbrev pub invariant-loop-k : goal.invariant-loop-k
+invariant-loop-k l = (l.k ≤ l.n) × (length l.syms ≡ length l.initial.syms) × Going l.initial.syms (record { at = l.at; hash = l.initial.h }) (units_of l.src) l.syms (l.at + l.k) l.h (units_of (drop (2 * l.k) l.src))
+
+abbrev pub decreases-loop-k : goal.decreases-loop-k
+decreases-loop-k l = l.n - l.k

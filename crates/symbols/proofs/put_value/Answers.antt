@@ -1,0 +1,8 @@
+-- `symbols::put_value` meets its contract. Assumes nothing.
+use Rattle.symbols.proofs.Going.{hashed_as, hashed_then}
+use Rattle.symbols.proofs.Values.{value_put}
+use borrow.Author.Rules.{rules}
+use Rattle.symbols.proofs.put_value.Goals as goal
+
+pub returns : goal.returns
+returns c = hashed_as (value_put c.args.token _ c.args.payload.now c.wide32.ensures.0) (hashed_then c.put_one-after.ensures c.put_bytes.ensures)
