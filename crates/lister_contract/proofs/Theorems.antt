@@ -44,7 +44,7 @@ stands_in (p ∷ ps) t i j (suc k) l e f =
     let v : 2 * suc k ≡ suc (suc (2 * k)) = omega arith in
     there (stands_in ps t i j k (omega arith) (rw v at e) (rw u at f))
 
-in_stands : {ps : List Pair} (t : List ℕ) (i j : ℕ) → In (pair i j) ps → Stands (flat_pairs ps ++ t) (length ps) i j
+in_stands : (t : List ℕ) (i j : ℕ) {ps : List Pair} → In (pair i j) ps → Stands (flat_pairs ps ++ t) (length ps) i j
 in_stands t i j here = record { row = 0; low = omega arith; earlier = refl; later = refl }
 in_stands t i j (there {l = ps} w) =
     let s = in_stands t i j w in

@@ -17,12 +17,11 @@ put_three-requires c =
     (c.requires.0, omega (arith, simp length-sets at (ap length c.loop-k.invariant.1)))
 
 pub loop-k-preserved : goal.loop-k-preserved
-loop-k-preserved c =
-    (
-      omega arith,
-      groups_next c.args.p.now _ c.loop-k.k (omega arith)
-          c.loop-k.invariant.1 c.put_three.ensures,
-    )
+loop-k-preserved c = (
+  omega arith,
+  groups_next c.args.p.now _ c.loop-k.k (omega arith)
+      c.loop-k.invariant.1 c.put_three.ensures,
+)
 
 pub shape_of-out : goal.shape_of-out
 shape_of-out c = ap length c.loop-k.invariant.1 ∙ simp length-sets

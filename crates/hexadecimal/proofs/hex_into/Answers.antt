@@ -16,12 +16,11 @@ pub put_byte-requires : goal.put_byte-requires
 put_byte-requires c = omega (arith, simp length-sets at (ap length c.loop-i.invariant.1))
 
 pub loop-i-preserved : goal.loop-i-preserved
-loop-i-preserved c =
-    (
-      omega arith,
-      hex_next _ _ _ c.loop-i-test.true
-          c.loop-i.invariant.1 c.put_byte.ensures,
-    )
+loop-i-preserved c = (
+  omega arith,
+  hex_next _ _ _ c.loop-i-test.true
+      c.loop-i.invariant.1 c.put_byte.ensures,
+)
 
 pub shape_of-out : goal.shape_of-out
 shape_of-out c = ap length c.loop-i.invariant.1 ∙ simp length-sets

@@ -29,13 +29,12 @@ pub loop-v-smaller : goal.loop-v-smaller
 loop-v-smaller c = omega (arith, c.loop-v.invariant.1.room)
 
 pub loop-v-preserved : goal.loop-v-preserved
-loop-v-preserved c =
-    (
-      c.tenth-v.ensures.1,
-      whole_next c.loop-v.invariant.1 c.put.ensures
-          c.digit.ensures c.tenth-v.ensures.0
-          (eqb-false _ _ (sym c.is_zero.ensures ∙ c.if-is_zero.false)),
-    )
+loop-v-preserved c = (
+  c.tenth-v.ensures.1,
+  whole_next c.loop-v.invariant.1 c.put.ensures
+      c.digit.ensures c.tenth-v.ensures.0
+      (eqb-false _ _ (sym c.is_zero.ensures ∙ c.if-is_zero.false)),
+)
 
 pub returns : goal.returns
 returns c =
