@@ -1,5 +1,4 @@
 -- `slices::cell` meets its contract. Assumes nothing.
-use borrow.Author.Rules.{rules}
 use mathlib.Core.Path.{refl}
 use native.Mathlib.Omega.{arith}
 use Rattle.slices.proofs.cell.Goals as goal

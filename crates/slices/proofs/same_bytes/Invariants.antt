@@ -1,8 +1,6 @@
 -- `slices::same_bytes` meets its contract. The loop's invariant: the lists agree below i. Assumes nothing.
 use Prim.Native.Nat.{◌≤◌, ◌-◌}
-use Rattle.sequences.proofs.Same.{Agree, differ_long, differ_at, agree_all}
-use borrow.Author.Count.{below_none, below_more}
-use borrow.Author.Rules.{rules}
+use Rattle.sequences.proofs.Same.{Agree}
 use lib.ListN.{length}
 use Rattle.slices.proofs.same_bytes.Given as goal
 

@@ -1,8 +1,6 @@
-use Prim.Native.Nat.{◌≤◌, ◌-◌}
-use Rattle.sequences.proofs.Same.{Agree, differ_long, differ_at, agree_all}
+use Rattle.sequences.proofs.Same.{differ_long, differ_at, agree_all}
 use borrow.Author.Count.{below_none, below_more}
 use borrow.Author.Rules.{rules}
-use lib.ListN.{length}
 use Rattle.slices.proofs.same_numbers.Goals as goal
 
 pub returns-then-a-b : goal.returns-then-a-b
