@@ -1,6 +1,5 @@
 -- `calendar::date_of` meets its contract: by cycles of 400 and of 4 years, and by months. Assumes nothing.
 use Rattle.calendar.specs.Dates.{date_of}
-use borrow.Author.Rules.{rules}
 use Rattle.calendar.proofs.date_of.Goals as goal
 
 pub returns : goal.returns

@@ -1,6 +1,5 @@
 -- `calendar::even_out` meets its contract: each branch by its test. Assumes nothing.
 use Rattle.sequences.proofs.Tests.{tests}
-use borrow.Author.Rules.{rules}
 use native.Mathlib.Omega.{arith}
 use Rattle.calendar.proofs.even_out.Goals as goal
 

@@ -1,6 +1,5 @@
 -- `chunks::divide` meets its contract. Assumes nothing.
 use Rattle.chunks.proofs.Division.{divides}
-use borrow.Author.Rules.{rules}
 use Rattle.chunks.proofs.divide.Goals as goal
 
 pub returns : goal.returns

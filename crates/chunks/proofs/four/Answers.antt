@@ -1,6 +1,5 @@
 -- `chunks::four` meets its contract. Assumes nothing.
 use Rattle.chunks.proofs.Words.{four_bytes}
-use borrow.Author.Rules.{rules}
 use Rattle.chunks.proofs.four.Goals as goal
 
 pub returns : goal.returns

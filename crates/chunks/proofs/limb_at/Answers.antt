@@ -1,6 +1,5 @@
 -- `chunks::limb_at` meets its contract. Assumes nothing.
 use Rattle.chunks.proofs.Little.{limb_within, limb_there, limb_none}
-use borrow.Author.Rules.{rules}
 use Rattle.chunks.proofs.limb_at.Goals as goal
 
 pub little_at-requires : goal.little_at-requires

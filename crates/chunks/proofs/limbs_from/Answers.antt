@@ -1,6 +1,5 @@
 -- `chunks::limbs_from` meets its contract. Assumes nothing.
 use Rattle.chunks.proofs.Little.{limbs_joined}
-use borrow.Author.Rules.{rules}
 use Rattle.chunks.proofs.limbs_from.Goals as goal
 
 pub returns : goal.returns

@@ -1,6 +1,5 @@
 use Prim.Native.Nat.{◌-◌}
-use Rattle.chunks.proofs.Little.{Summed, summed_start, summed_mul, summed_add, summed_next, summed_end}
-use borrow.Author.Rules.{rules}
+use Rattle.chunks.proofs.Little.{summed_start, summed_mul, summed_add, summed_next, summed_end}
 use native.Mathlib.Omega.{arith}
 use Rattle.chunks.proofs.little_at.Goals as goal
 

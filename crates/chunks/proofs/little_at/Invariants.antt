@@ -1,8 +1,5 @@
 -- `chunks::little_at` meets its contract. The loop goes down from `to`; its invariant is `Summed`. Assumes nothing.
-use Prim.Native.Nat.{◌-◌}
-use Rattle.chunks.proofs.Little.{Summed, summed_start, summed_mul, summed_add, summed_next, summed_end}
-use borrow.Author.Rules.{rules}
-use native.Mathlib.Omega.{arith}
+use Rattle.chunks.proofs.Little.{Summed}
 use Rattle.chunks.proofs.little_at.Given as goal
 
 abbrev pub invariant-loop-i : goal.invariant-loop-i

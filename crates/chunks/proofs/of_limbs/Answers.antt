@@ -1,6 +1,5 @@
 -- `chunks::of_limbs` meets its contract. Assumes nothing.
 use Rattle.chunks.proofs.Division.{chunks}
-use borrow.Author.Rules.{rules}
 use Rattle.chunks.proofs.of_limbs.Goals as goal
 
 pub returns : goal.returns

@@ -1,6 +1,5 @@
 -- `chunks::two` meets its contract. Assumes nothing.
 use Rattle.chunks.proofs.Words.{two_bytes}
-use borrow.Author.Rules.{rules}
 use Rattle.chunks.proofs.two.Goals as goal
 
 pub returns : goal.returns

@@ -1,6 +1,5 @@
 -- `chunks::word_of` meets its contract: each arm by the law of its size. Assumes nothing.
 use Rattle.chunks.proofs.Words.{last_size, all_bytes, one_byte, eight_bytes}
-use borrow.Author.Rules.{rules}
 use native.Mathlib.Omega.{arith}
 use Rattle.chunks.proofs.word_of.Goals as goal
 

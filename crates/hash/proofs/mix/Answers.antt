@@ -1,6 +1,5 @@
 -- `hash::mix` meets its contract: the sum stays below 2 ^ 64. Assumes nothing.
 use Rattle.hash.proofs.Carry.{carry, carry_more, high, low}
-use borrow.Author.Rules.{rules}
 use Rattle.hash.proofs.mix.Goals as goal
 
 pub overflow_add-result : goal.overflow_add-result

@@ -1,6 +1,5 @@
 -- `hexadecimal::hex_digit` meets its contract. The digit without a branch is the digit by cases. Assumes nothing.
 use Rattle.hexadecimal.proofs.Hex.{hex_digit_is}
-use borrow.Author.Rules.{rules}
 use Rattle.hexadecimal.proofs.hex_digit.Goals as goal
 
 pub returns : goal.returns

@@ -1,11 +1,7 @@
-use Prim.Native.Nat.{◌-◌, ◌≤◌}
 use Rattle.hexadecimal.proofs.Hex.{hex_none, hex_next, hex_all}
-use Rattle.hexadecimal.specs.Hexadecimal.{hex}
-use Rattle.sequences.specs.Lists.{bytes_of}
-use borrow.Author.Rules.{rules}
-use lib.ListN.{length, take}
-use lib.Seq.{sets, length-sets}
-use mathlib.Core.Path.{◌≡◌, ◌∙◌, ap}
+use lib.ListN.{length}
+use lib.Seq.{length-sets}
+use mathlib.Core.Path.{◌∙◌, ap}
 use native.Mathlib.Omega.{arith}
 use Rattle.hexadecimal.proofs.hex_into.Goals as goal
 

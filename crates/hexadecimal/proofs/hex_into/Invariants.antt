@@ -1,13 +1,10 @@
 -- `hexadecimal::hex_into` meets its contract. The invariant: the text of the first `i` bytes is stored at the front. The
 use Prim.Native.Nat.{◌-◌, ◌≤◌}
-use Rattle.hexadecimal.proofs.Hex.{hex_none, hex_next, hex_all}
 use Rattle.hexadecimal.specs.Hexadecimal.{hex}
 use Rattle.sequences.specs.Lists.{bytes_of}
-use borrow.Author.Rules.{rules}
 use lib.ListN.{length, take}
-use lib.Seq.{sets, length-sets}
-use mathlib.Core.Path.{◌≡◌, ◌∙◌, ap}
-use native.Mathlib.Omega.{arith}
+use lib.Seq.{sets}
+use mathlib.Core.Path.{◌≡◌}
 use Rattle.hexadecimal.proofs.hex_into.Given as goal
 
 abbrev pub invariant-loop-i : goal.invariant-loop-i

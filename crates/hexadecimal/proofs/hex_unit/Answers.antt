@@ -1,7 +1,6 @@
 -- `hexadecimal::hex_unit` meets its contract. The high or the low half of the byte of unit `k`. Assumes nothing.
 use Prim.Native.Nat.{◌/◌}
 use Rattle.hexadecimal.proofs.Hex.{hex_even, hex_odd}
-use borrow.Author.Rules.{rules}
 use mathlib.Core.Path.{◌∙◌}
 use native.Mathlib.Omega.{arith}
 use Rattle.hexadecimal.proofs.hex_unit.Goals as goal

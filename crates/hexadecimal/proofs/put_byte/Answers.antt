@@ -1,7 +1,6 @@
 -- `hexadecimal::put_byte` meets its contract. The two digits are the text of the byte. Assumes nothing.
 use Rattle.hexadecimal.proofs.Hex.{text_byte}
 use Rattle.sequences.proofs.Store.{text_is}
-use borrow.Author.Rules.{rules}
 use lib.ListN.{length}
 use lib.Seq.{length-sets}
 use mathlib.Core.Path.{◌∙◌, ap}

@@ -1,6 +1,5 @@
 -- `modes::after_misc` meets its contract: an arm for each mode, in the order of the code. Assumes nothing.
 use Rattle.modes.specs.Modes.{after_misc}
-use borrow.Author.Rules.{rules}
 use mathlib.Core.Path.{sym, ap}
 use Rattle.modes.proofs.after_misc.Goals as goal
 

@@ -1,6 +1,5 @@
 -- `modes::may_stand` meets its contract: each class by the tests on the mode's number. Assumes nothing.
 use Rattle.modes.proofs.ModeLaws.{in_content, in_list, in_either, in_mode}
-use borrow.Author.Rules.{rules}
 use mathlib.Core.Path.{◌∙◌}
 use Rattle.modes.proofs.may_stand.Goals as goal
 

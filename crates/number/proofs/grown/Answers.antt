@@ -1,6 +1,5 @@
 -- `number::grown` meets its contract: neither the product nor the sum wraps. Assumes nothing.
 use Rattle.number.proofs.Capped.{product_fits}
-use borrow.Author.Rules.{rules}
 use native.Mathlib.Omega.{arith}
 use Rattle.number.proofs.grown.Goals as goal
 

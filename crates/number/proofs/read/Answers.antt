@@ -1,5 +1,4 @@
-use Rattle.number.proofs.Going.{Going, going_start, too_many, too_short, too_large, found, going_on}
-use borrow.Author.Rules.{rules}
+use Rattle.number.proofs.Going.{going_start, too_many, too_short, too_large, found, going_on}
 use native.Mathlib.Omega.{arith}
 use Rattle.number.proofs.read.Goals as goal
 

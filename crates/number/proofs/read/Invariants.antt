@@ -1,7 +1,5 @@
 -- `number::read` meets its contract. The invariant: what is still to be read completes the number (`Going`). The measure is
-use Rattle.number.proofs.Going.{Going, going_start, too_many, too_short, too_large, found, going_on}
-use borrow.Author.Rules.{rules}
-use native.Mathlib.Omega.{arith}
+use Rattle.number.proofs.Going.{Going}
 use Rattle.number.proofs.read.Given as goal
 
 abbrev pub invariant-loop-left : goal.invariant-loop-left

@@ -1,6 +1,5 @@
 -- `rules::date_lawful` meets its contract. Assumes nothing.
 use Rattle.rules.proofs.Rules.{date_sized, date_day}
-use borrow.Author.Rules.{rules}
 use Rattle.rules.proofs.date_lawful.Goals as goal
 
 pub returns-then-p-eq3 : goal.returns-then-p-eq3

@@ -2,7 +2,6 @@
 use Prim.Native.Nat.{◌+◌, ◌*◌}
 use Rattle.rules.proofs.Rules.{little_three, day_early, day_late}
 use Rattle.sequences.specs.Lists.{part, little}
-use borrow.Author.Rules.{rules}
 use mathlib.Core.Path.{◌≡◌, sym}
 use Rattle.rules.proofs.day_within.Goals as goal
 

@@ -1,6 +1,5 @@
 -- `rules::decimal_lawful` meets its contract: each way out is a law of proofs/Rules.antt. Assumes nothing.
 use Rattle.rules.proofs.Rules.{decimal_long, decimal_sized, decimal_precision, decimal_scale, decimal_sign}
-use borrow.Author.Rules.{rules}
 use mathlib.Core.Path.{sym, ◌∙◌}
 use native.Mathlib.Omega.{arith}
 use Rattle.rules.proofs.decimal_lawful.Goals as goal

@@ -1,6 +1,5 @@
 -- `rules::obeys` meets its contract: a function for each shape. Assumes nothing.
 use Rattle.rules.specs.Rules.{lawful}
-use borrow.Author.Rules.{rules}
 use Rattle.rules.proofs.obeys.Goals as goal
 
 pub returns-in-Nothing : goal.returns-in-Nothing

@@ -1,6 +1,5 @@
 -- `rules::stamp_lawful` meets its contract. Assumes nothing.
 use Rattle.rules.proofs.Rules.{stamp_sized, stamp_low}
-use borrow.Author.Rules.{rules}
 use Rattle.rules.proofs.stamp_lawful.Goals as goal
 
 pub returns-then-p-eq8 : goal.returns-then-p-eq8

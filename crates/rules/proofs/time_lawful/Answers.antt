@@ -1,6 +1,5 @@
 -- `rules::time_lawful` meets its contract: each way out is a law of proofs/Rules.antt. Assumes nothing.
 use Rattle.rules.proofs.Rules.{time_empty, time_precision, time_sized, time_day}
-use borrow.Author.Rules.{rules}
 use Rattle.rules.proofs.time_lawful.Goals as goal
 
 pub returns-then-p-eq0 : goal.returns-then-p-eq0

@@ -2,7 +2,6 @@
 use Prim.Native.Nat.{◌+◌, ◌*◌}
 use Rattle.rules.proofs.Rules.{little_two, zone_east, zone_west}
 use Rattle.sequences.specs.Lists.{part, little}
-use borrow.Author.Rules.{rules}
 use mathlib.Core.Path.{◌≡◌, sym}
 use Rattle.rules.proofs.zone_lawful.Goals as goal
 

@@ -1,6 +1,5 @@
 -- `rules::zoned_lawful` meets its contract. Assumes nothing.
 use Rattle.rules.proofs.Rules.{time_long, zoned_time, zoned_zone}
-use borrow.Author.Rules.{rules}
 use mathlib.Core.Path.{sym, ◌∙◌}
 use native.Mathlib.Omega.{arith}
 use Rattle.rules.proofs.zoned_lawful.Goals as goal

@@ -1,6 +1,5 @@
 -- `token::class_at` meets its contract: the table's rule at the byte. Assumes nothing.
 use Rattle.token.proofs.Rule.{class_here}
-use borrow.Author.Rules.{rules}
 use native.Mathlib.Omega.{arith}
 use Rattle.token.proofs.class_at.Goals as goal
 

@@ -1,6 +1,5 @@
 -- `token::fixed_at` meets its contract: the table's rule at the byte. Assumes nothing.
 use Rattle.token.proofs.Fixed.{fixed_here}
-use borrow.Author.Rules.{rules}
 use native.Mathlib.Omega.{arith}
 use Rattle.token.proofs.fixed_at.Goals as goal
 

@@ -1,6 +1,5 @@
 -- `token::shape_at` meets its contract: the table's rule at the byte. Assumes nothing.
 use Rattle.token.proofs.Rule.{shape_here}
-use borrow.Author.Rules.{rules}
 use native.Mathlib.Omega.{arith}
 use Rattle.token.proofs.shape_at.Goals as goal
 
