@@ -1,6 +1,5 @@
 -- Serves the code. Bounds that a caller of `fields::name_at`, `fields::qname_at` and `fields::header_at` needs.
 use Rattle.std.specs.Prelude.{ℕ, ◌≤◌, ◌<◌, ◌+◌, ◌≡◌}
-use Rattle.number.specs.declared.Number.TheVariants as number
 use Rattle.fields.specs.declared.Name.{Name}
 use Rattle.fields.specs.declared.Name.TheVariants as name
 use Rattle.fields.specs.declared.Qname.{Qname}

@@ -1,6 +1,5 @@
 -- The examples of the canonical form, by computation. Assumes nothing.
 use mathlib.Core.Path.{◌≡◌, refl}
-use Rattle.token.specs.Tokens.{shape_of}
 use Rattle.number.specs.Number.{spell_in, shortest}
 use Rattle.form.specs.Canonical.{same_triple, place, absent, fresh, number_of, qnumber_of, grown_if, grown, with_units, length_of, header_of, definition, with_texts, definitions, qname_bytes, qname_definition, with_qname, body, canonical}
 use Rattle.form.specs.Examples.{Example, empty_target, shared_text, shared_local, nested_document}

@@ -7,7 +7,7 @@ use mathlib.Core.List.{List, [], ◌∷◌, ◌++◌, map, append_assoc}
 use native.Mathlib.Omega.{arith}
 use lib.Dec.{eqb}
 use lib.ListN.{length, drop, length-append}
-use Rattle.sequences.specs.Lists.{part, In, here}
+use Rattle.sequences.specs.Lists.{part, In}
 use Rattle.sequences.proofs.Overlay.{part_length}
 use Rattle.number.specs.Number.{shortest}
 use Rattle.value.specs.Fields.{text_at}

@@ -1,7 +1,7 @@
 -- Serves the code. What a document of the form has defined, in regions of one array: at its base how many, and behind it for
 -- each class its number or 0; then the trail, by which a region is cleared: the class defined last, and behind it for each
 -- class the one defined before it.
-use Rattle.std.specs.Prelude.{ℕ, zero, suc, ◌+◌, ◌-◌, ◌*◌, ◌≤◌, ◌<◌, ◌≡◌, Bool, false, cond, List, eqb, length, get_or, set}
+use Rattle.std.specs.Prelude.{ℕ, zero, suc, ◌+◌, ◌*◌, ◌≤◌, ◌<◌, ◌≡◌, Bool, false, cond, List, eqb, length, get_or, set}
 use Rattle.form_slots.specs.declared.Parts.{Parts}
 use Rattle.classes.specs.Search.{class_at}
 use Rattle.token.specs.Tokens.{qname_width, name_rows, nested_documents}

@@ -1,5 +1,5 @@
 -- What the grammar derives, reading walks: by induction over the derivation. Assumes nothing.
-use Prim.Native.Nat.{ℕ, ◌+◌, ◌-◌, ◌<◌}
+use Prim.Native.Nat.{ℕ, ◌+◌, ◌<◌}
 use mathlib.Core.Path.{◌≡◌, refl}
 use mathlib.Core.Bool.{Bool, true, false, ◌||◌}
 use mathlib.Core.List.{List, ◌∷◌}
@@ -12,7 +12,7 @@ use Rattle.modes.specs.declared.Mode.TheVariants as mode
 use Rattle.scan.specs.declared.Room.{Room}
 use Rattle.machine.specs.Machine.{Scope, scope}
 use Rattle.machine.proofs.Outside.{misc_content}
-use Rattle.grammar.specs.Grammar.{Point, past_qname, past_end, past_header, past_nest, past_end_nest, Byte, Star, nil, cons, Optional, omitted, present, Depth, flat, both, in_element, in_document, QnameReference, TextToken, HeaderBytes, XmlDecl, xmldecl, DocTypeDecl, doctypedecl, Metadata, Comment, comment, Misc, misc_comment, misc_pi, misc_metadata, CdSect, cdsect, Part, part_metadata, part_value, Attribute, attribute, Attributes, attributes, Typed, typed, Document, document, Content, done, then, an_element, a_cdsect, a_pi, a_comment, an_atomicvalue, a_metadata, a_nestedbinaryxml, element, nestedbinaryxml}
+use Rattle.grammar.specs.Grammar.{Point, past_qname, past_end, past_header, past_nest, past_end_nest, Byte, Star, nil, cons, Optional, omitted, present, Depth, flat, both, in_element, in_document, QnameReference, TextToken, HeaderBytes, XmlDecl, xmldecl, DocTypeDecl, doctypedecl, Metadata, Comment, comment, Misc, misc_comment, misc_pi, misc_metadata, CdSect, cdsect, Part, part_metadata, part_value, Attribute, attribute, Attributes, attributes, Typed, typed, Document, document, done, then, an_element, a_cdsect, a_pi, a_comment, an_atomicvalue, a_metadata, a_nestedbinaryxml, element, nestedbinaryxml}
 use Rattle.grammar.proofs.Rest.{clash}
 use Rattle.grammar.proofs.Steps as steps
 use Rattle.grammar.proofs.Steps.{state_of, Reach, stay, ◌⨾◌}

@@ -1,6 +1,6 @@
 -- The smallest documents that 01, "How tight each statement is", argues by are derived: a reader that refuses everything,
 -- and one that accepts but fills no row, are not what `exactly` says. Assumes nothing.
-use Prim.Native.Nat.{ℕ, ◌+◌}
+use Prim.Native.Nat.{ℕ}
 use mathlib.Core.Path.{refl}
 use mathlib.Core.List.{List, [], ◌∷◌, ◌++◌}
 use native.Mathlib.Omega.{arith}

@@ -23,7 +23,7 @@ use Rattle.value.specs.Fields.{text_at, qname_payload, extent_at, ruled, field_a
 use Rattle.value.specs.declared.Text.TheVariants as text
 use Rattle.value.specs.declared.Field.{Field}
 use Rattle.value.specs.declared.Field.TheVariants as field
-use Rattle.modes.specs.Modes.{content, in_attributes, is, allowed}
+use Rattle.modes.specs.Modes.{content, in_attributes, allowed}
 use Rattle.modes.specs.declared.Mode.{Mode}
 use Rattle.modes.specs.declared.View.{View}
 use Rattle.scan.specs.declared.Room.{Room}
@@ -36,7 +36,7 @@ use Rattle.machine.proofs.Trace.{Trace}
 use Rattle.machine.proofs.Codes.{coded, reference_shape}
 use Rattle.machine.proofs.Found as found
 use Rattle.machine.proofs.Found.{Stands, TextLeads, ValueClass, Found, found_step}
-use Rattle.grammar.specs.Grammar.{Point, point, past_text, past_qname, Atomic, Byte, TextToken, texttoken, standalone, a_namedef, namedef, a_qnamedef, qnamedef, an_extension, extension, flush_defined_name_tokens, comment, pi, misc_comment, misc_pi, a_comment, a_pi, QnameReference, AtomicValue, atomicvalue, qname_value}
+use Rattle.grammar.specs.Grammar.{Point, point, past_text, past_qname, Atomic, Byte, TextToken, texttoken, standalone, a_namedef, namedef, a_qnamedef, qnamedef, an_extension, extension, flush_defined_name_tokens, comment, pi, misc_comment, misc_pi, a_comment, a_pi, AtomicValue, atomicvalue, qname_value}
 use Rattle.grammar.proofs.Atomic.{Values, any_version, later, class_atomic}
 use Rattle.grammar.proofs.Payloads.{payload_found}
 use Rattle.grammar.proofs.Leaves.{number_found, text_found, name_found, qname_found, header_found}

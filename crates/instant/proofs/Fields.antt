@@ -1,19 +1,17 @@
 -- The fields of a payload that obeys its rule, and parts of it as little-endian numbers. Assumes nothing.
-use Prim.Native.Nat.{ℕ, ◌+◌, ◌-◌, ◌*◌, ◌^◌, ◌≤◌, ◌<◌}
-use mathlib.Core.Path.{◌≡◌, refl, ap, ◌∙◌}
-use mathlib.Core.Bool.{Bool, true, false, cond, ◌&&◌, ◌||◌}
+use Prim.Native.Nat.{ℕ, ◌+◌, ◌-◌, ◌^◌, ◌≤◌, ◌<◌}
+use mathlib.Core.Path.{◌≡◌, ap, ◌∙◌}
+use mathlib.Core.Bool.{true, false, ◌&&◌, ◌||◌}
 use mathlib.Core.List.{List}
 use native.Mathlib.Nat.{lt_of_lt_of_le, pow-le-pow_right}
 use native.Mathlib.Omega.{arith}
-use native.Mathlib.Decide.{dec_lt}
 use lib.Dec.{leb, eqb}
-use lib.ListN.{length, get_or, take, drop}
+use lib.ListN.{length, take, drop}
 use lib.Seq.{slice, take-add, take_all, drop_at, length-take-le}
 use borrow.Author.Tests.{leb-true, eqb-true}
 use Rattle.sequences.specs.Lists.{part, little}
 use Rattle.sequences.proofs.Tests.{tests, and_left, and_right, either}
 use Rattle.rules.specs.Rules.{time_bytes, day_within, zone_lawful, time_lawful, zoned_lawful, lawful}
-use Rattle.rules.proofs.Rules.{time_bytes_few}
 use Rattle.instant.specs.declared.Form.TheVariants.{Date2, DateTime2, Time2, DateTimeOffset, Milliseconds}
 use Rattle.instant.specs.Instant.{precision_in, ticks_in, day_in, zone_in, is_west, minutes_of}
 use Rattle.instant.specs.Forms.{form_shape}

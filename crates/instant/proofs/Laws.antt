@@ -15,7 +15,7 @@ use Rattle.rules.specs.Rules.{lawful}
 use Rattle.chunks.proofs.Chunked.{ten_pos}
 use Rattle.calendar.specs.Calendar.{last_day}
 use Rattle.moment.specs.declared.Moment.{Moment}
-use Rattle.moment.specs.declared.Moment.TheVariants.{Day, Time, DayTime, Zoned}
+use Rattle.moment.specs.declared.Moment.TheVariants.{Time}
 use Rattle.moment.specs.Written.{Writable}
 use Rattle.instant.specs.declared.Form.{Form}
 use Rattle.instant.specs.declared.Form.TheVariants.{Date2, DateTime2, Time2, DateTimeOffset, Milliseconds}

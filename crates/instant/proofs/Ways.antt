@@ -1,10 +1,9 @@
 -- Instants: bounds, and each way out of the functions that place one in the calendar. Assumes nothing.
 use Prim.Native.Nat.{ℕ, ◌+◌, ◌-◌, ◌*◌, ◌/◌, ◌%◌, ◌^◌, ◌≤◌, ◌<◌}
 use mathlib.Core.Path.{◌≡◌, sym, ap, subst, ◌∙◌}
-use mathlib.Core.Bool.{Bool, true, false, cond}
-use native.Mathlib.Nat.{mul-le-mul, le_trans}
+use mathlib.Core.Bool.{Bool, true, false}
+use native.Mathlib.Nat.{mul-le-mul}
 use native.Mathlib.Omega.{arith}
-use lib.Dec.{leb, ltb}
 use Rattle.sequences.proofs.Tests.{tests}
 use Rattle.calendar.specs.Calendar.{last_day}
 use Rattle.instant.specs.declared.Local.{Local}
@@ -14,7 +13,7 @@ use lib.ListN.{length}
 use Rattle.sequences.specs.Lists.{little}
 use Rattle.rules.specs.Rules.{lawful}
 use Rattle.chunks.specs.Chunks.{word_size}
-use Rattle.moment.specs.declared.Moment.TheVariants.{Day, Time, DayTime, Zoned}
+use Rattle.moment.specs.declared.Moment.TheVariants.{Day, Time}
 use Rattle.instant.specs.declared.Found.{Found}
 use Rattle.instant.specs.declared.Found.TheVariants.{Text, NoText}
 use Rattle.instant.specs.declared.Form.{Form}

@@ -1,7 +1,7 @@
 -- Every byte string is answered by number and place, and the rows kept were finished before it (demand 1). Assumes nothing.
-use Prim.Native.Nat.{ℕ, ◌+◌, ◌*◌, ◌≤◌, ◌<◌}
+use Prim.Native.Nat.{ℕ, ◌+◌, ◌≤◌}
 use mathlib.Core.Path.{◌≡◌, refl}
-use mathlib.Core.List.{List, [], ◌∷◌, ◌++◌}
+use mathlib.Core.List.{List, [], ◌∷◌}
 use native.Mathlib.Omega.{arith}
 use lib.ListN.{length}
 use Rattle.sequences.specs.Arrays.{Every, none, first}
@@ -13,13 +13,13 @@ use Rattle.scan.specs.declared.Room.{Room}
 use Rattle.scan.specs.declared.Step.{Step}
 use Rattle.scan.specs.declared.Step.TheVariants as step
 use Rattle.scan.proofs.Fine.{found_fine}
-use Rattle.machine.specs.Machine.{NameRow, Scope, State, view, returned, apply, Result, started, reading, read_answer, Reads}
+use Rattle.machine.specs.Machine.{NameRow, Scope, State, view, returned, apply, reading, read_answer, Reads}
 use Rattle.machine.specs.Facts as facts
 use Rattle.machine.specs.Facts.{NameFits}
 use Rattle.machine.specs.Answered.{Answered}
 use Rattle.machine.specs.declared.Answer.{Answer}
 use Rattle.machine.proofs.Goes.{Goes}
-use Rattle.machine.proofs.Trace.{Stopped, kept}
+use Rattle.machine.proofs.Trace.{kept}
 use Rattle.machine.proofs.Found as found
 use Rattle.machine.proofs.Found.{Found, found_step}
 use Rattle.machine.proofs.Readings.{Unread, long, headless, by_reading}

@@ -1,5 +1,5 @@
 -- Demand 1, of any reading: it is answered by number and place, and the rows that it keeps were finished before that place.
-use Rattle.std.specs.Prelude.{ℕ, ◌≤◌, ◌<◌, ◌≡◌, List, length}
+use Rattle.std.specs.Prelude.{ℕ, ◌≤◌, ◌≡◌, List, length}
 use Rattle.sequences.specs.Arrays.{Every}
 use Rattle.token.specs.Tokens.{accepted, too_long, no_row, longest}
 use Rattle.machine.specs.Machine.{Result}

@@ -1,7 +1,7 @@
 -- Pairs with one earlier place. Assumes nothing.
 use Prim.Native.Nat.{ℕ}
 use mathlib.Core.Path.{◌≡◌, ap}
-use mathlib.Core.Logic.{◌⊎◌, ⊎_elim}
+use mathlib.Core.Logic.{⊎_elim}
 use mathlib.Core.List.{List, [], ◌∷◌, map}
 use Rattle.sequences.specs.Lists.{In, there}
 use Rattle.sequences.proofs.Members.{in_none, in_cons, in_first}

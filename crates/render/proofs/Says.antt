@@ -22,7 +22,7 @@ use Rattle.machine.specs.Facts.{text_tokens, qname_tokens, bare_tokens, EventFit
 use Rattle.machine.specs.Tables.{name_rows_in, qname_rows_in}
 use Rattle.machine.proofs.Facts.{every_one_of}
 use Rattle.plan.specs.Text.{text_of}
-use Rattle.meaning.specs.Meaning.{Symbol, OpenAttribute, none_open_fact, counted, skipped, unit, attribute, value, qname, declares, closed, unless, shown_as, named_symbols, plain_symbols, symbols_of, attribute_after, opens, closes}
+use Rattle.meaning.specs.Meaning.{Symbol, OpenAttribute, none_open_fact, counted, skipped, unit, attribute, qname, declares, closed, unless, shown_as, named_symbols, plain_symbols, symbols_of, attribute_after, opens, closes}
 use Rattle.meaning.specs.Codes.{mark, both, codes_of}
 use Rattle.meaning.proofs.Codes.{codes_append}
 use Rattle.render.specs.Render.{Renderable}

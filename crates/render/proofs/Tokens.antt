@@ -10,7 +10,7 @@ use lib.ListN.{length}
 use borrow.Author.Tests.{eqb-true, ltb-true}
 use Rattle.sequences.specs.Arrays.{none, first}
 use Rattle.sequences.proofs.Tests.{and_left, and_right}
-use Rattle.token.specs.Tokens.{Token, token, tokens, find, class_of, shape_of}
+use Rattle.token.specs.Tokens.{Token, tokens, find, class_of, shape_of}
 use Rattle.token.specs.declared.Class.{Class}
 use Rattle.token.specs.declared.Class.TheVariants as class
 use Rattle.token.specs.declared.Shape.{Shape}

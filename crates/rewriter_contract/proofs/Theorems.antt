@@ -10,7 +10,6 @@ use lib.Dec.{ltb, eqb}
 use lib.ListN.{length, take, drop}
 use lib.Seq.{take_at}
 use borrow.Author.Tests.{eqb-true, ltb-false}
-use Rattle.sequences.specs.Lists.{overlay}
 use Rattle.sequences.proofs.Tests.{tests}
 use Rattle.token.specs.Tokens.{accepted, no_room, form_too_long, longest}
 use Rattle.scan.specs.declared.Room.{Room}

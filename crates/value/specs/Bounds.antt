@@ -1,8 +1,6 @@
 -- Serves the code. Bounds that a caller of `value::read` and `value::text_at` needs.
 use Rattle.std.specs.Prelude.{ℕ, ◌+◌, ◌*◌, ◌≤◌, ◌<◌}
 use Rattle.token.specs.Tokens.{largest}
-use Rattle.token.specs.declared.Shape.TheVariants.{Text}
-use Rattle.number.specs.declared.Number.TheVariants as number
 use Rattle.value.specs.declared.Text as declared
 use Rattle.value.specs.declared.Text.TheVariants as text
 use Rattle.value.specs.declared.Field.{Field}

@@ -1,6 +1,5 @@
 -- `base64_text::base64_char` meets its contract. By the place in the group of four, and by whether the group has the byte. Assumes nothing.
 use Rattle.base64_text.proofs.Base64.{group_inside, last_of_four, unit_first, unit_second, unit_third, unit_third_none, unit_fourth, unit_fourth_none}
-use borrow.Author.Rules.{rules}
 use native.Mathlib.Omega.{arith}
 use Rattle.base64_text.proofs.base64_char.Goals as goal
 

@@ -1,7 +1,6 @@
 -- `base64_text::base64_into` meets its contract. The text of the whole groups, then that of what is left. Assumes nothing.
 use Prim.Native.Nat.{◌/◌}
 use Rattle.base64_text.proofs.Base64.{groups_last}
-use borrow.Author.Rules.{rules}
 use lib.ListN.{length}
 use native.Mathlib.Omega.{arith}
 use Rattle.base64_text.proofs.base64_into.Goals as goal

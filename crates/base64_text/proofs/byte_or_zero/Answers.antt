@@ -1,5 +1,4 @@
 -- `base64_text::byte_or_zero` meets its contract. Past the end a list reads as 0. Assumes nothing.
-use borrow.Author.Rules.{rules}
 use lib.ListN.{get_or-eq_default}
 use mathlib.Core.Path.{sym}
 use Rattle.base64_text.proofs.byte_or_zero.Goals as goal

@@ -1,6 +1,5 @@
 -- `base64_text::letter_of` meets its contract. The entry of a table of the alphabet. Assumes nothing.
 use Rattle.base64_text.specs.Letters.{Alphabet}
-use borrow.Author.Rules.{rules}
 use Rattle.base64_text.proofs.letter_of.Goals as goal
 
 pub returns : goal.returns

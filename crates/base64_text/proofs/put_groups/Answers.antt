@@ -1,10 +1,6 @@
-use Prim.Native.Nat.{◌-◌, ◌*◌, ◌≤◌}
 use Rattle.base64_text.proofs.Base64.{groups_none, groups_next}
-use Rattle.base64_text.specs.Base64.{base64}
-use Rattle.sequences.specs.Lists.{bytes_of}
-use borrow.Author.Rules.{rules}
-use lib.ListN.{length, take}
-use lib.Seq.{sets, length-sets}
+use lib.ListN.{length}
+use lib.Seq.{length-sets}
 use mathlib.Core.Path.{◌≡◌, ◌∙◌, ap}
 use native.Mathlib.Omega.{arith}
 use Rattle.base64_text.proofs.put_groups.Goals as goal

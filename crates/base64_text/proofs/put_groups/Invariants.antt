@@ -1,13 +1,10 @@
 -- `base64_text::put_groups` meets its contract. The invariant: the text of the first `k` groups is stored at the front.
 use Prim.Native.Nat.{◌-◌, ◌*◌, ◌≤◌}
-use Rattle.base64_text.proofs.Base64.{groups_none, groups_next}
 use Rattle.base64_text.specs.Base64.{base64}
 use Rattle.sequences.specs.Lists.{bytes_of}
-use borrow.Author.Rules.{rules}
-use lib.ListN.{length, take}
-use lib.Seq.{sets, length-sets}
-use mathlib.Core.Path.{◌≡◌, ◌∙◌, ap}
-use native.Mathlib.Omega.{arith}
+use lib.ListN.{take}
+use lib.Seq.{sets}
+use mathlib.Core.Path.{◌≡◌}
 use Rattle.base64_text.proofs.put_groups.Given as goal
 
 abbrev pub invariant-loop-k : goal.invariant-loop-k

@@ -2,7 +2,6 @@
 use Rattle.base64_text.proofs.Base64.{text_none, none_left, one_left, two_left}
 use Rattle.base64_text.specs.Base64.{base64}
 use Rattle.sequences.proofs.Store.{text_is}
-use borrow.Author.Rules.{rules}
 use lib.ListN.{length}
 use lib.Seq.{length-sets}
 use mathlib.Core.Path.{◌∙◌, ap}

@@ -1,7 +1,6 @@
 -- `base64_text::put_one` meets its contract. The two letters and the padding are the text of the byte. Assumes nothing.
 use Rattle.base64_text.proofs.Base64.{text_one}
 use Rattle.sequences.proofs.Store.{text_is}
-use borrow.Author.Rules.{rules}
 use lib.ListN.{length}
 use lib.Seq.{length-sets}
 use mathlib.Core.Path.{◌∙◌, ap}

@@ -1,7 +1,6 @@
 -- `base64_text::put_three` meets its contract. The four letters are the text of the three bytes. Assumes nothing.
 use Rattle.base64_text.proofs.Base64.{text_three}
 use Rattle.sequences.proofs.Store.{text_is}
-use borrow.Author.Rules.{rules}
 use lib.ListN.{length}
 use lib.Seq.{length-sets}
 use mathlib.Core.Path.{◌∙◌, ap}

@@ -1,6 +1,5 @@
 -- `classes::class_at` meets its contract. Assumes nothing.
 use Rattle.classes.proofs.Keys.{row_class}
-use borrow.Author.Rules.{rules}
 use Rattle.classes.proofs.class_at.Goals as goal
 
 pub returns : goal.returns

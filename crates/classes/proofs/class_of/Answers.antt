@@ -1,6 +1,5 @@
 -- `classes::class_of` meets its contract. Assumes nothing.
 use Rattle.classes.proofs.Keys.{class_found}
-use borrow.Author.Rules.{rules}
 use native.Mathlib.Omega.{arith}
 use Rattle.classes.proofs.class_of.Goals as goal
 

@@ -1,6 +1,5 @@
 -- `classes::class_or` meets its contract. Assumes nothing.
 use Rattle.sequences.proofs.Tests.{tests}
-use borrow.Author.Rules.{rules}
 use Rattle.classes.proofs.class_or.Goals as goal
 
 pub returns-then-j-lt-NAME_ROWS : goal.returns-then-j-lt-NAME_ROWS

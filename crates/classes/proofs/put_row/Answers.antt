@@ -1,5 +1,4 @@
 -- `classes::put_row` meets its contract. Assumes nothing.
-use borrow.Author.Rules.{rules}
 use lib.ListN.{set}
 use mathlib.Core.Path.{ap}
 use Rattle.classes.proofs.put_row.Goals as goal

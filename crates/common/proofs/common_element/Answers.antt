@@ -1,7 +1,6 @@
 -- `common::common_element` meets its contract: a number of one byte that is known. Assumes nothing.
 use Prim.Native.Nat.{◌+◌}
 use Rattle.common.proofs.Commonest.{begins}
-use borrow.Author.Rules.{rules}
 use mathlib.Core.Path.{refl}
 use native.Mathlib.Omega.{arith}
 use Rattle.common.proofs.common_element.Goals as goal

@@ -1,6 +1,5 @@
 -- `common::common_value` meets its contract: a value of fixed size that lies in the document. Assumes nothing.
 use Rattle.common.proofs.Commonest.{fixes}
-use borrow.Author.Rules.{rules}
 use native.Mathlib.Omega.{arith}
 use Rattle.common.proofs.common_value.Goals as goal
 

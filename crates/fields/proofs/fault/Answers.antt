@@ -1,6 +1,5 @@
 -- `fields::fault` meets its contract. Assumes nothing.
 use Rattle.fields.proofs.Headers.{byte_missing, byte_low, byte_high, byte_right}
-use borrow.Author.Rules.{rules}
 use Rattle.fields.proofs.fault.Goals as goal
 
 pub returns-then-doc-at : goal.returns-then-doc-at

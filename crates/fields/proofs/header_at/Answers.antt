@@ -1,6 +1,5 @@
 -- `fields::header_at` meets its contract: the five bytes one after the other. Assumes nothing.
 use Rattle.fields.proofs.Headers.{first_wrong, second_wrong, third_wrong, fourth_wrong, fifth_wrong, whole, refused_within}
-use borrow.Author.Rules.{rules}
 use mathlib.Core.Path.{refl, ◌∙◌}
 use native.Mathlib.Omega.{arith}
 use Rattle.fields.proofs.header_at.Goals as goal

@@ -1,7 +1,6 @@
 -- `fields::name_at` meets its contract. Assumes nothing.
 use Rattle.fields.proofs.References.{name_on, name_known, name_unknown}
 use Rattle.number.proofs.Within.{is_within}
-use borrow.Author.Rules.{rules}
 use lib.ListN.{length}
 use mathlib.Core.Path.{◌∙◌}
 use Rattle.fields.proofs.name_at.Goals as goal

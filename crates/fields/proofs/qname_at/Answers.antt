@@ -1,7 +1,6 @@
 -- `fields::qname_at` meets its contract. Assumes nothing.
 use Rattle.fields.proofs.References.{qname_on, qname_zero, qname_known, qname_unknown}
 use Rattle.number.proofs.Within.{is_within}
-use borrow.Author.Rules.{rules}
 use lib.ListN.{length}
 use mathlib.Core.Path.{◌∙◌}
 use native.Mathlib.Omega.{arith}

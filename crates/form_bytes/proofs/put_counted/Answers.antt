@@ -1,6 +1,5 @@
 -- `form_bytes::put_counted` meets its contract: the number, then the bytes. Assumes nothing.
 use Rattle.form_output.proofs.Laws.{put_then, shortest_few, fits_after}
-use borrow.Author.Rules.{rules}
 use native.Mathlib.Omega.{arith}
 use Rattle.form_bytes.proofs.put_counted.Goals as goal
 

@@ -1,6 +1,5 @@
 -- `form_bytes::put_header` meets its contract: five bytes, one after the other. Assumes nothing.
 use Rattle.form_bytes.proofs.Headers.{header_laid}
-use borrow.Author.Rules.{rules}
 use Rattle.form_bytes.proofs.put_header.Goals as goal
 
 pub returns : goal.returns

@@ -1,6 +1,5 @@
 -- `form_bytes::put_text` meets its contract: the length is half the number of bytes. Assumes nothing.
 use Rattle.form_bytes.proofs.Values.{text_fits, text_laid}
-use borrow.Author.Rules.{rules}
 use native.Mathlib.Omega.{arith}
 use Rattle.form_bytes.proofs.put_text.Goals as goal
 

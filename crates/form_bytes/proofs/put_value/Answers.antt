@@ -1,6 +1,5 @@
 -- `form_bytes::put_value` meets its contract: each arm by the shapes that it stands for. Assumes nothing.
 use Rattle.form_bytes.proofs.Values.{of_text, of_blob, of_others, value_fits, value_fits_bare, value_laid}
-use borrow.Author.Rules.{rules}
 use native.Mathlib.Omega.{arith}
 use Rattle.form_bytes.proofs.put_value.Goals as goal
 

@@ -1,5 +1,4 @@
 -- `form_items::depth_after` meets its contract. Assumes nothing.
-use borrow.Author.Rules.{rules}
 use native.Mathlib.Omega.{arith}
 use Rattle.form_items.proofs.depth_after.Goals as goal
 

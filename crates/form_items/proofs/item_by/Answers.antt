@@ -1,7 +1,6 @@
 -- `form_items::item_by` meets its contract. Assumes nothing.
 use Rattle.form_items.proofs.Classed.{refers, bytes, texts}
 use Rattle.machine.specs.Machine.{event}
-use borrow.Author.Rules.{rules}
 use borrow.Author.Tests.{eq-eqb, ne_eqb}
 use Rattle.form_items.proofs.item_by.Goals as goal
 

@@ -1,6 +1,5 @@
 -- `form_items::look` meets its contract. Assumes nothing.
 use Rattle.form_items.proofs.Classed.{looked}
-use borrow.Author.Rules.{rules}
 use Rattle.form_items.proofs.look.Goals as goal
 
 pub returns : goal.returns

@@ -1,6 +1,5 @@
 -- `form_items::put_nest` meets its contract. Assumes nothing.
 use Rattle.form_items.proofs.Bytes.{byte_then}
-use borrow.Author.Rules.{rules}
 use Rattle.form_items.proofs.put_nest.Goals as goal
 
 pub returns : goal.returns

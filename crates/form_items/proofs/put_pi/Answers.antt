@@ -1,6 +1,5 @@
 -- `form_items::put_pi` meets its contract. Assumes nothing.
 use Rattle.form_items.proofs.Bytes.{pi_asks, pi_low, pi_near, pi_number, pi_text, pi_put, not_refused}
-use borrow.Author.Rules.{rules}
 use native.Mathlib.Omega.{arith}
 use Rattle.form_items.proofs.put_pi.Goals as goal
 

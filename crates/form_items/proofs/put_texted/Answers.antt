@@ -3,7 +3,6 @@ use Prim.Native.Nat.{◌*◌}
 use Rattle.form.specs.Canonical.{with_units}
 use Rattle.form_items.proofs.Bytes.{byte_then, byte_fits}
 use Rattle.sequences.specs.Lists.{part}
-use borrow.Author.Rules.{rules}
 use native.Mathlib.Omega.{arith}
 use Rattle.form_items.proofs.put_texted.Goals as goal
 

@@ -1,6 +1,5 @@
 -- `form_items::put_valued` meets its contract. Assumes nothing.
 use Rattle.form_items.proofs.Bytes.{value_asks, value_put}
-use borrow.Author.Rules.{rules}
 use Rattle.form_items.proofs.put_valued.Goals as goal
 
 pub put_value-requires : goal.put_value-requires

@@ -1,7 +1,6 @@
 -- `form_items::write` meets its contract. Assumes nothing.
 use Rattle.form_items.proofs.Writes.{byte_asks, text_asks, target_asks, pi_asks, row_asks, qclass_asks, row_from, refer_asks, wrote_refer, value_asks, nest_asks, wrote_byte, wrote_text, wrote_pi, wrote_value, wrote_nest, wrote_leave}
 use Rattle.form_items.specs.Walk.{tables}
-use borrow.Author.Rules.{rules}
 use mathlib.Core.Path.{refl}
 use native.Mathlib.Omega.{arith}
 use Rattle.form_items.proofs.write.Goals as goal

@@ -1,6 +1,5 @@
 -- `form_names::define_name` meets its contract. Assumes nothing.
 use Rattle.form_names.proofs.Steps.{none_empty, none_known, text_due, text_asks}
-use borrow.Author.Rules.{rules}
 use Rattle.form_names.proofs.define_name.Goals as goal
 
 pub returns-then-class-eq0 : goal.returns-then-class-eq0

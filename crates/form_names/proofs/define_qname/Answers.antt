@@ -1,7 +1,6 @@
 -- `form_names::define_qname` meets its contract. Assumes nothing.
 use Rattle.form_names.proofs.Steps.{qname_known, texts_fit, numbers_asks, qname_new}
 use Rattle.form_slots.proofs.Slots.{low_more}
-use borrow.Author.Rules.{rules}
 use native.Mathlib.Omega.{arith}
 use Rattle.form_names.proofs.define_qname.Goals as goal
 

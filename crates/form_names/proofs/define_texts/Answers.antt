@@ -1,6 +1,5 @@
 -- `form_names::define_texts` meets its contract. Assumes nothing.
 use Rattle.form_names.proofs.Steps.{uri_asks, prefix_asks, local_asks, texts_put}
-use borrow.Author.Rules.{rules}
 use Rattle.form_names.proofs.define_texts.Goals as goal
 
 pub define_name-x-requires : goal.define_name-x-requires

@@ -1,6 +1,5 @@
 -- `form_names::put_qname` meets its contract. Assumes nothing.
 use Rattle.form_names.proofs.Steps.{number_asks, number_past, qname_put}
-use borrow.Author.Rules.{rules}
 use native.Mathlib.Omega.{arith}
 use Rattle.form_names.proofs.put_qname.Goals as goal
 

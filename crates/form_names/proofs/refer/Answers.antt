@@ -1,6 +1,5 @@
 -- `form_names::refer` meets its contract. Assumes nothing.
 use Rattle.form_names.proofs.Steps.{refer_near, after_low, number_asks, refer_put}
-use borrow.Author.Rules.{rules}
 use native.Mathlib.Omega.{arith}
 use Rattle.form_names.proofs.refer.Goals as goal
 

@@ -1,6 +1,4 @@
-use Prim.Native.Nat.{◌-◌}
-use Rattle.form_output.proofs.Steps.{Copying, copy_start, copy_next, copy_end}
-use borrow.Author.Rules.{rules}
+use Rattle.form_output.proofs.Steps.{copy_start, copy_next, copy_end}
 use mathlib.Core.Path.{refl}
 use Rattle.form_output.proofs.copy.Goals as goal
 

@@ -1,7 +1,5 @@
 use Prim.Native.Nat.{◌-◌}
-use Rattle.form_output.proofs.Steps.{Copying, copy_start, copy_next, copy_end}
-use borrow.Author.Rules.{rules}
-use mathlib.Core.Path.{refl}
+use Rattle.form_output.proofs.Steps.{Copying}
 use Rattle.form_output.proofs.copy.Given as goal
 
 abbrev pub invariant-loop-i : goal.invariant-loop-i

@@ -1,7 +1,6 @@
 -- `form_output::lay` meets its contract: an output that ends at or before the place stays as it is. Assumes nothing.
 use Rattle.form_output.proofs.Laws.{room_for}
 use Rattle.form_output.proofs.Steps.{part_laid, part_measured}
-use borrow.Author.Rules.{rules}
 use Rattle.form_output.proofs.lay.Goals as goal
 
 pub returns-then-out-at : goal.returns-then-out-at

@@ -1,5 +1,4 @@
 -- `form_output::put` meets its contract. Assumes nothing.
-use borrow.Author.Rules.{rules}
 use lib.Seq.{set_out}
 use mathlib.Core.Path.{sym}
 use Rattle.form_output.proofs.put.Goals as goal

@@ -1,5 +1,4 @@
-use Rattle.form_output.proofs.Steps.{Left, left_start, left_next, left_low, left_end}
-use borrow.Author.Rules.{rules}
+use Rattle.form_output.proofs.Steps.{left_start, left_next, left_low, left_end}
 use lib.ListN.{length-set}
 use native.Mathlib.Omega.{arith}
 use Rattle.form_output.proofs.put_number.Goals as goal

@@ -1,8 +1,5 @@
 -- `form_output::put_number` meets its contract. The loop's invariant is `Left`: what is left to lay completes the spelling. Assumes nothing.
-use Rattle.form_output.proofs.Steps.{Left, left_start, left_next, left_low, left_end}
-use borrow.Author.Rules.{rules}
-use lib.ListN.{length-set}
-use native.Mathlib.Omega.{arith}
+use Rattle.form_output.proofs.Steps.{Left}
 use Rattle.form_output.proofs.put_number.Given as goal
 
 abbrev pub invariant-loop-left : goal.invariant-loop-left

@@ -1,7 +1,6 @@
 use Prim.Native.Nat.{◌+◌}
-use Rattle.form_slots.proofs.Slots.{Clearing, clear_first, next_in, previous_is, clear_more, clear_all}
+use Rattle.form_slots.proofs.Slots.{clear_first, next_in, previous_is, clear_more, clear_all}
 use Rattle.machine.specs.Tables.{class_count}
-use borrow.Author.Rules.{rules}
 use native.Mathlib.Omega.{arith}
 use Rattle.form_slots.proofs.clear.Goals as goal
 

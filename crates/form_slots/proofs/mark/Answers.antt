@@ -1,6 +1,5 @@
 -- `form_slots::mark` meets its contract. Assumes nothing.
 use Rattle.form_slots.proofs.Slots.{marked_is}
-use borrow.Author.Rules.{rules}
 use native.Mathlib.Omega.{arith}
 use Rattle.form_slots.proofs.mark.Goals as goal
 

@@ -1,7 +1,6 @@
 -- `form_slots::name_number` meets its contract. Assumes nothing.
 use Prim.Native.Nat.{◌+◌}
 use Rattle.form_slots.proofs.Slots.{slot_number}
-use borrow.Author.Rules.{rules}
 use mathlib.Core.Path.{refl}
 use native.Mathlib.Omega.{arith}
 use Rattle.form_slots.proofs.name_number.Goals as goal

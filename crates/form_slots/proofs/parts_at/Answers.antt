@@ -1,6 +1,5 @@
 -- `form_slots::parts_at` meets its contract. Assumes nothing.
 use Rattle.form_slots.proofs.Slots.{parts_is}
-use borrow.Author.Rules.{rules}
 use Rattle.form_slots.proofs.parts_at.Goals as goal
 
 pub returns : goal.returns

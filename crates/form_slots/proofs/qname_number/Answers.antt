@@ -1,7 +1,6 @@
 -- `form_slots::qname_number` meets its contract. Assumes nothing.
 use Prim.Native.Nat.{◌+◌}
 use Rattle.form_slots.proofs.Slots.{row_number}
-use borrow.Author.Rules.{rules}
 use mathlib.Core.Path.{refl}
 use native.Mathlib.Omega.{arith}
 use Rattle.form_slots.proofs.qname_number.Goals as goal

@@ -1,7 +1,6 @@
 -- `instant::date` meets its contract: three bytes are the day. Assumes nothing.
 use Rattle.instant.proofs.Fields.{date_field, date_read}
 use Rattle.instant.proofs.Ways.{date_is}
-use borrow.Author.Rules.{rules}
 use native.Mathlib.Omega.{arith}
 use Rattle.instant.proofs.date.Goals as goal
 

@@ -1,6 +1,5 @@
 -- `instant::date_at` meets its contract: whole days, and what is left of them. Assumes nothing.
 use Rattle.instant.proofs.Ways.{dated_none, dated_at}
-use borrow.Author.Rules.{rules}
 use Rattle.instant.proofs.date_at.Goals as goal
 
 pub returns-then-day : goal.returns-then-day

@@ -1,7 +1,6 @@
 -- `instant::date_time` meets its contract: whole days are carried into the date. Assumes nothing.
 use Rattle.instant.proofs.Fields.{date_time_fields}
 use Rattle.instant.proofs.Ways.{date_time_is}
-use borrow.Author.Rules.{rules}
 use native.Mathlib.Omega.{arith}
 use Rattle.instant.proofs.date_time.Goals as goal
 

@@ -1,7 +1,6 @@
 -- `instant::date_time_offset` meets its contract: whole days are carried, and the zone moves UTC into local time. Assumes nothing.
 use Rattle.instant.proofs.Fields.{zoned_fields}
 use Rattle.instant.proofs.Ways.{zoned_is}
-use borrow.Author.Rules.{rules}
 use native.Mathlib.Omega.{arith}
 use Rattle.instant.proofs.date_time_offset.Goals as goal
 

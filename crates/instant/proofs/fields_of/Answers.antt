@@ -1,6 +1,5 @@
 -- `instant::fields_of` meets its contract: each field stands where the time before it ends. Assumes nothing.
 use Rattle.instant.proofs.Fields.{five_bytes, ticks_read, day_read}
-use borrow.Author.Rules.{rules}
 use mathlib.Core.Path.{refl}
 use native.Mathlib.Omega.{arith}
 use Rattle.instant.proofs.fields_of.Goals as goal

@@ -1,6 +1,5 @@
 -- `instant::local_at` meets its contract: the zone is added, or taken off where there is as much. Assumes nothing.
 use Rattle.instant.proofs.Ways.{zone_room, local_none, local_west, local_east}
-use borrow.Author.Rules.{rules}
 use native.Mathlib.Omega.{arith}
 use Rattle.instant.proofs.local_at.Goals as goal
 

@@ -1,6 +1,5 @@
 -- `instant::moment_of` meets its contract: each arm by its kind of payload. Assumes nothing.
 use Rattle.instant.proofs.Ways.{lawful_on, moment_on}
-use borrow.Author.Rules.{rules}
 use Rattle.instant.proofs.moment_of.Goals as goal
 
 pub date-requires : goal.date-requires

@@ -1,6 +1,5 @@
 -- `instant::per_day` meets its contract. Assumes nothing.
 use Rattle.instant.proofs.Ways.{per_day_is}
-use borrow.Author.Rules.{rules}
 use native.Mathlib.Omega.{arith}
 use Rattle.instant.proofs.per_day.Goals as goal
 

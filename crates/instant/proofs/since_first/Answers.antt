@@ -1,6 +1,5 @@
 -- `instant::since_first` meets its contract: no sum or product is too large. Assumes nothing.
 use Rattle.instant.proofs.Ways.{instant_room, since_is}
-use borrow.Author.Rules.{rules}
 use native.Mathlib.Omega.{arith}
 use Rattle.instant.proofs.since_first.Goals as goal
 

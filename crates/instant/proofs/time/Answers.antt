@@ -1,7 +1,6 @@
 -- `instant::time` meets its contract: what is left of whole days. Assumes nothing.
 use Rattle.instant.proofs.Fields.{time_only_fields}
 use Rattle.instant.proofs.Ways.{time_is}
-use borrow.Author.Rules.{rules}
 use native.Mathlib.Omega.{arith}
 use Rattle.instant.proofs.time.Goals as goal
 

@@ -1,6 +1,5 @@
 -- `instant::zone_of` meets its contract: the last two bytes, signed. Assumes nothing.
 use Rattle.instant.proofs.Fields.{zone_below, zone_east, zone_west}
-use borrow.Author.Rules.{rules}
 use native.Mathlib.Omega.{arith}
 use Rattle.instant.proofs.zone_of.Goals as goal
 

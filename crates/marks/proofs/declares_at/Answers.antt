@@ -1,6 +1,5 @@
 -- `marks::declares_at` meets its contract. Assumes nothing.
 use Rattle.marks.proofs.Names.{declares_uri, declares_local, declares_none, prefix_there, declares_prefix}
-use borrow.Author.Rules.{rules}
 use native.Mathlib.Omega.{arith}
 use Rattle.marks.proofs.declares_at.Goals as goal
 

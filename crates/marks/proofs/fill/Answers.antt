@@ -1,7 +1,4 @@
-use Prim.Native.Nat.{◌-◌, ◌≤◌}
 use Rattle.marks.proofs.MarkLaws.{marks_none, marks_next, marks_all}
-use Rattle.marks.specs.Marks.{MarksOf}
-use borrow.Author.Rules.{rules}
 use native.Mathlib.Omega.{arith}
 use Rattle.marks.proofs.fill.Goals as goal
 

@@ -1,9 +1,6 @@
 -- `marks::fill` meets its contract. The invariant: the marks of the rows passed are stored. The measure: the rows
 use Prim.Native.Nat.{◌-◌, ◌≤◌}
-use Rattle.marks.proofs.MarkLaws.{marks_none, marks_next, marks_all}
 use Rattle.marks.specs.Marks.{MarksOf}
-use borrow.Author.Rules.{rules}
-use native.Mathlib.Omega.{arith}
 use Rattle.marks.proofs.fill.Given as goal
 
 abbrev pub invariant-loop-k : goal.invariant-loop-k

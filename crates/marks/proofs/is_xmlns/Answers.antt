@@ -1,6 +1,5 @@
 -- `marks::is_xmlns` meets its contract. Assumes nothing.
 use Rattle.marks.proofs.Texts.{xmlns_short, xmlns_none, xmlns_long}
-use borrow.Author.Rules.{rules}
 use lib.ListN.{length-take}
 use native.Mathlib.Omega.{arith}
 use Rattle.marks.proofs.is_xmlns.Goals as goal

@@ -1,6 +1,5 @@
 -- `marks::mark_at` meets its contract. Assumes nothing.
 use Rattle.marks.proofs.MarkLaws.{small_as, mark_more, mark_alone}
-use borrow.Author.Rules.{rules}
 use mathlib.Core.Path.{sym, ◌∙◌}
 use Rattle.marks.proofs.mark_at.Goals as goal
 

@@ -1,6 +1,5 @@
 -- `marks::pair_at` meets its contract. Assumes nothing.
 use Rattle.marks.proofs.MarkLaws.{pair_is}
-use borrow.Author.Rules.{rules}
 use native.Mathlib.Omega.{arith}
 use Rattle.marks.proofs.pair_at.Goals as goal
 

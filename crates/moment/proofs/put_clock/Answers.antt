@@ -1,6 +1,5 @@
 -- `moment::put_clock` meets its contract: the digits after the point, seconds, minutes and hours from the right. Assumes nothing.
 use Rattle.moment.proofs.Puts.{clock_put}
-use borrow.Author.Rules.{rules}
 use native.Mathlib.Omega.{arith}
 use Rattle.moment.proofs.put_clock.Goals as goal
 

@@ -1,7 +1,6 @@
 -- `moment::put_date` meets its contract: day, month and year from the right. Assumes nothing.
 use Rattle.moment.proofs.Puts.{date_put}
-use borrow.Author.Rules.{rules}
-use mathlib.Core.Path.{◌≡◌, ◌∙◌}
+use mathlib.Core.Path.{◌∙◌}
 use native.Mathlib.Omega.{arith}
 use Rattle.moment.proofs.put_date.Goals as goal
 

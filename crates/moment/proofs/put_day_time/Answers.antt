@@ -1,7 +1,6 @@
 -- `moment::put_day_time` meets its contract: the time, the T before it, the date before that. Assumes nothing.
 use Prim.Native.Nat.{◌≤◌}
 use Rattle.moment.proofs.Puts.{day_time_put}
-use borrow.Author.Rules.{rules}
 use native.Mathlib.Omega.{arith}
 use Rattle.moment.proofs.put_day_time.Goals as goal
 

@@ -1,7 +1,5 @@
-use Rattle.moment.proofs.Puts.{DigitsSoFar, digits_start, digits_next, digits_end}
-use borrow.Author.Rules.{rules}
-use lib.ListN.{length}
-use mathlib.Core.Path.{◌≡◌, ◌∙◌}
+use Rattle.moment.proofs.Puts.{digits_start, digits_next, digits_end}
+use mathlib.Core.Path.{◌∙◌}
 use native.Mathlib.Omega.{arith}
 use Rattle.moment.proofs.put_digits.Goals as goal
 

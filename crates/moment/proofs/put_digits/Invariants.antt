@@ -1,9 +1,5 @@
 -- `moment::put_digits` meets its contract. The loop's invariant is `DigitsSoFar`. Assumes nothing.
-use Rattle.moment.proofs.Puts.{DigitsSoFar, digits_start, digits_next, digits_end}
-use borrow.Author.Rules.{rules}
-use lib.ListN.{length}
-use mathlib.Core.Path.{◌≡◌, ◌∙◌}
-use native.Mathlib.Omega.{arith}
+use Rattle.moment.proofs.Puts.{DigitsSoFar}
 use Rattle.moment.proofs.put_digits.Given as goal
 
 abbrev pub invariant-loop-left : goal.invariant-loop-left

@@ -1,7 +1,5 @@
 -- `moment::put_field` meets its contract: the letter, and the digits before it. Assumes nothing.
 use Rattle.moment.proofs.Puts.{put_one, put_both}
-use borrow.Author.Rules.{rules}
-use mathlib.Core.Path.{◌≡◌, ◌∙◌}
 use native.Mathlib.Omega.{arith}
 use Rattle.moment.proofs.put_field.Goals as goal
 

@@ -1,6 +1,5 @@
 -- `moment::put_fraction` meets its contract: as many digits as the precision says, and the point. Assumes nothing.
 use Rattle.moment.proofs.Puts.{no_fraction, fraction_put}
-use borrow.Author.Rules.{rules}
 use native.Mathlib.Omega.{arith}
 use Rattle.moment.proofs.put_fraction.Goals as goal
 

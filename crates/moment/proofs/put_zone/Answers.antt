@@ -1,6 +1,5 @@
 -- `moment::put_zone` meets its contract: minutes, hours and the sign from the right. Assumes nothing.
 use Rattle.moment.proofs.Puts.{zone_put}
-use borrow.Author.Rules.{rules}
 use native.Mathlib.Omega.{arith}
 use Rattle.moment.proofs.put_zone.Goals as goal
 

@@ -1,6 +1,5 @@
 -- `moment::render` meets its contract: each arm by the law of its kind of moment. Assumes nothing.
 use Rattle.moment.proofs.Puts.{writable_on, put_last, ends_day, ends_time, ends_day_time, ends_zoned}
-use borrow.Author.Rules.{rules}
 use lib.Dec.{lit≤}
 use Rattle.moment.proofs.render.Goals as goal
 

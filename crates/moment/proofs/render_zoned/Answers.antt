@@ -1,6 +1,5 @@
 -- `moment::render_zoned` meets its contract: the zone, and date and time before it. Assumes nothing.
 use Rattle.moment.proofs.Puts.{put_both, put_last}
-use borrow.Author.Rules.{rules}
 use Rattle.moment.proofs.render_zoned.Goals as goal
 
 pub returns : goal.returns

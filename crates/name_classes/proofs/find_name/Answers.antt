@@ -1,10 +1,8 @@
-use Prim.Native.Nat.{◌-◌, ◌%◌}
-use Rattle.classes.proofs.Trees.{Way, way_first, way_before, way_on, way_hit, way_end}
+use Prim.Native.Nat.{◌%◌}
+use Rattle.classes.proofs.Trees.{way_first, way_before, way_on, way_hit, way_end}
 use Rattle.classes.specs.Search.{row_text_at}
 use Rattle.classes.specs.Tree.{below}
-use Rattle.name_classes.specs.Texts.{text_hash}
 use Rattle.sequences.proofs.Same.{same_true, differ}
-use borrow.Author.Rules.{rules}
 use mathlib.Core.Path.{sym, ◌∙◌}
 use native.Mathlib.Omega.{arith}
 use Rattle.name_classes.proofs.find_name.Goals as goal

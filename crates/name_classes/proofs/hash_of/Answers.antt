@@ -1,6 +1,4 @@
-use Prim.Native.Nat.{◌-◌}
-use Rattle.name_classes.proofs.Texts.{Hashing, hash_start, hash_next, hash_end}
-use borrow.Author.Rules.{rules}
+use Rattle.name_classes.proofs.Texts.{hash_start, hash_next, hash_end}
 use Rattle.name_classes.proofs.hash_of.Goals as goal
 
 pub loop-k-init : goal.loop-k-init

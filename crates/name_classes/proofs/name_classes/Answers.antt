@@ -1,9 +1,8 @@
-use Prim.Native.Nat.{ℕ, ◌-◌}
+use Prim.Native.Nat.{ℕ}
 use Rattle.classes.proofs.Trees.{spot_holds}
 use Rattle.machine.proofs.Tables.{names_inside}
-use Rattle.name_classes.proofs.Names.{table_to, Made, made_none, made_next, made_all}
+use Rattle.name_classes.proofs.Names.{table_to, made_none, made_next, made_all}
 use Rattle.name_classes.specs.Texts.{text_hash}
-use borrow.Author.Rules.{rules}
 use lib.ListN.{length-replicate, get_or-replicate}
 use mathlib.Core.Path.{ap, ◌∙◌}
 use native.Mathlib.Omega.{arith}

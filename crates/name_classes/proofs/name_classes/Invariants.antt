@@ -1,13 +1,6 @@
 -- `name_classes::name_classes` meets its contract. The invariant is `Made`: the rows passed are in the tree, and have their hashes and
-use Prim.Native.Nat.{ℕ, ◌-◌}
-use Rattle.classes.proofs.Trees.{spot_holds}
-use Rattle.machine.proofs.Tables.{names_inside}
-use Rattle.name_classes.proofs.Names.{table_to, Made, made_none, made_next, made_all}
-use Rattle.name_classes.specs.Texts.{text_hash}
-use borrow.Author.Rules.{rules}
-use lib.ListN.{length-replicate, get_or-replicate}
-use mathlib.Core.Path.{ap, ◌∙◌}
-use native.Mathlib.Omega.{arith}
+use Prim.Native.Nat.{◌-◌}
+use Rattle.name_classes.proofs.Names.{Made}
 use Rattle.name_classes.proofs.name_classes.Given as goal
 
 abbrev pub invariant-loop-r : goal.invariant-loop-r

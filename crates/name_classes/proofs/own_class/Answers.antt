@@ -1,5 +1,4 @@
 -- `name_classes::own_class` meets its contract. Assumes nothing.
-use borrow.Author.Rules.{rules}
 use borrow.Author.Tests.{ne_eqb}
 use mathlib.Core.Path.{sym, ◌∙◌}
 use Rattle.name_classes.proofs.own_class.Goals as goal

@@ -1,6 +1,5 @@
 -- `name_classes::row_text` meets its contract. Assumes nothing.
 use Rattle.name_classes.proofs.Names.{text_part}
-use borrow.Author.Rules.{rules}
 use native.Mathlib.Omega.{arith}
 use Rattle.name_classes.proofs.row_text.Goals as goal
 

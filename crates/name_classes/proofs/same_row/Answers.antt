@@ -1,7 +1,6 @@
 -- `name_classes::same_row` meets its contract: equal texts have equal hashes. Assumes nothing.
 use Rattle.classes.specs.Search.{row_text_at}
 use Rattle.name_classes.proofs.Texts.{texts_differ}
-use borrow.Author.Rules.{rules}
 use Rattle.name_classes.proofs.same_row.Goals as goal
 
 pub returns-then-hashes-j : goal.returns-then-hashes-j

@@ -1,6 +1,4 @@
-use Prim.Native.Nat.{◌-◌}
-use Rattle.numeral.proofs.Stores.{Copied, copied_start, copied_length, copied_next, copied_end}
-use borrow.Author.Rules.{rules}
+use Rattle.numeral.proofs.Stores.{copied_start, copied_length, copied_next, copied_end}
 use native.Mathlib.Omega.{arith}
 use Rattle.numeral.proofs.copy_from.Goals as goal
 

@@ -1,8 +1,6 @@
 -- `numeral::copy_from` meets its contract. The loop's invariant is `Copied`. Assumes nothing.
 use Prim.Native.Nat.{◌-◌}
-use Rattle.numeral.proofs.Stores.{Copied, copied_start, copied_length, copied_next, copied_end}
-use borrow.Author.Rules.{rules}
-use native.Mathlib.Omega.{arith}
+use Rattle.numeral.proofs.Stores.{Copied}
 use Rattle.numeral.proofs.copy_from.Given as goal
 
 abbrev pub invariant-loop-i : goal.invariant-loop-i

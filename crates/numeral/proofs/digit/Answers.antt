@@ -1,7 +1,6 @@
 -- `numeral::digit` meets its contract. The last digit of the number is that of its lowest chunk. Assumes nothing.
 use Prim.Native.Nat.{ℕ, ◌+◌}
 use Rattle.chunks.proofs.Chunked.{last_digit}
-use borrow.Author.Rules.{rules}
 use mathlib.Core.Path.{ap}
 use Rattle.numeral.proofs.digit.Goals as goal
 

@@ -1,6 +1,5 @@
 -- `numeral::put` meets its contract. Assumes nothing.
 use Rattle.numeral.proofs.Stores.{unit_put}
-use borrow.Author.Rules.{rules}
 use Rattle.numeral.proofs.put.Goals as goal
 
 pub returns : goal.returns

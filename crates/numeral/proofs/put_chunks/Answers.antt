@@ -1,5 +1,5 @@
-use Rattle.chunks.specs.Chunks.{chunks_value, Chunked}
-use Rattle.numeral.proofs.Whole.{WholeSoFar, whole_start, whole_next, whole_end}
+use Rattle.chunks.specs.Chunks.{chunks_value}
+use Rattle.numeral.proofs.Whole.{whole_start, whole_next, whole_end}
 use borrow.Author.Tests.{eqb-true, eqb-false}
 use mathlib.Core.Path.{sym, ◌∙◌}
 use native.Mathlib.Omega.{arith}

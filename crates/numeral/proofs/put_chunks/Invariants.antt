@@ -1,9 +1,6 @@
 -- `numeral::put_chunks` meets its contract. The loop's invariant is `WholeSoFar`. Assumes nothing.
 use Rattle.chunks.specs.Chunks.{chunks_value, Chunked}
-use Rattle.numeral.proofs.Whole.{WholeSoFar, whole_start, whole_next, whole_end}
-use borrow.Author.Tests.{eqb-true, eqb-false}
-use mathlib.Core.Path.{sym, ◌∙◌}
-use native.Mathlib.Omega.{arith}
+use Rattle.numeral.proofs.Whole.{WholeSoFar}
 use Rattle.numeral.proofs.put_chunks.Given as goal
 
 abbrev pub invariant-loop-v : goal.invariant-loop-v

@@ -1,5 +1,4 @@
-use Rattle.numeral.proofs.Fraction.{FractionSoFar, fraction_start, fraction_next, fraction_none, fraction_point}
-use borrow.Author.Rules.{rules}
+use Rattle.numeral.proofs.Fraction.{fraction_start, fraction_next, fraction_none, fraction_point}
 use native.Mathlib.Omega.{arith}
 use Rattle.numeral.proofs.put_fraction.Goals as goal
 

@@ -1,7 +1,5 @@
 -- `numeral::put_fraction` meets its contract. The loop's invariant is `FractionSoFar`. Assumes nothing.
-use Rattle.numeral.proofs.Fraction.{FractionSoFar, fraction_start, fraction_next, fraction_none, fraction_point}
-use borrow.Author.Rules.{rules}
-use native.Mathlib.Omega.{arith}
+use Rattle.numeral.proofs.Fraction.{FractionSoFar}
 use Rattle.numeral.proofs.put_fraction.Given as goal
 
 abbrev pub invariant-loop-k : goal.invariant-loop-k

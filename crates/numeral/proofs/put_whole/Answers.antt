@@ -1,6 +1,5 @@
 -- `numeral::put_whole` meets its contract: where nothing stands above the lowest chunk, that is the number. Assumes nothing.
 use Rattle.chunks.proofs.Chunked.{low_alone}
-use borrow.Author.Rules.{rules}
 use Rattle.numeral.proofs.put_whole.Goals as goal
 
 pub returns-then-n-eq0-2 : goal.returns-then-n-eq0-2

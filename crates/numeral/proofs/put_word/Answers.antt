@@ -1,5 +1,4 @@
-use Rattle.numeral.proofs.Whole.{WholeSoFar, whole_start, whole_next, whole_end}
-use borrow.Author.Rules.{rules}
+use Rattle.numeral.proofs.Whole.{whole_start, whole_next, whole_end}
 use mathlib.Core.Path.{refl}
 use native.Mathlib.Omega.{arith}
 use Rattle.numeral.proofs.put_word.Goals as goal

@@ -1,8 +1,5 @@
 -- `numeral::put_word` meets its contract. The loop's invariant is `WholeSoFar`. Assumes nothing.
-use Rattle.numeral.proofs.Whole.{WholeSoFar, whole_start, whole_next, whole_end}
-use borrow.Author.Rules.{rules}
-use mathlib.Core.Path.{refl}
-use native.Mathlib.Omega.{arith}
+use Rattle.numeral.proofs.Whole.{WholeSoFar}
 use Rattle.numeral.proofs.put_word.Given as goal
 
 abbrev pub invariant-loop-v : goal.invariant-loop-v

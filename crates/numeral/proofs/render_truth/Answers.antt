@@ -1,6 +1,5 @@
 -- `numeral::render_truth` meets its contract. Assumes nothing.
 use Rattle.numeral.proofs.Stores.{ends_true, ends_false}
-use borrow.Author.Rules.{rules}
 use Rattle.numeral.proofs.render_truth.Goals as goal
 
 pub returns-then-yes : goal.returns-then-yes

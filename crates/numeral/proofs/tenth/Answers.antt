@@ -1,6 +1,5 @@
 -- `numeral::tenth` meets its contract. Assumes nothing.
 use Rattle.chunks.proofs.Chunked.{move, shorten}
-use borrow.Author.Rules.{rules}
 use Rattle.numeral.proofs.tenth.Goals as goal
 
 pub returns-then-n-eq1 : goal.returns-then-n-eq1

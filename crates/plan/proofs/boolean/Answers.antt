@@ -1,6 +1,5 @@
 -- `plan::boolean` meets its contract: "true" where the byte is not 0. Assumes nothing.
 use Rattle.plan.proofs.Plans.{boolean_is}
-use borrow.Author.Rules.{rules}
 use Rattle.plan.proofs.boolean.Goals as goal
 
 pub returns : goal.returns

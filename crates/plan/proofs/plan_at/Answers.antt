@@ -1,6 +1,5 @@
 -- `plan::plan_at` meets its contract: a payload that is too long or breaks its rule has no text. Assumes nothing.
 use Rattle.plan.proofs.Plans.{text_long, text_broken, text_lawful}
-use borrow.Author.Rules.{rules}
 use Rattle.plan.proofs.plan_at.Goals as goal
 
 pub returns-then-payload-gt-LONGEST : goal.returns-then-payload-gt-LONGEST

@@ -1,6 +1,5 @@
 -- `plan::plan_kind` meets its contract: each arm by the law of its kind. Assumes nothing.
 use Rattle.plan.proofs.Plans.{kind_on, rule_on, unshown_is, same_is, hex_is, base64_is}
-use borrow.Author.Rules.{rules}
 use Rattle.plan.proofs.plan_kind.Goals as goal
 
 pub signed-requires : goal.signed-requires

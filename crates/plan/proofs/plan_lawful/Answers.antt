@@ -1,7 +1,6 @@
 -- `plan::plan_lawful` meets its contract: the token's rule is what its kind relies on. Assumes nothing.
 use Rattle.plan.proofs.Plans.{rule_on, text_kept}
 use Rattle.plan.proofs.Rules.{ruled}
-use borrow.Author.Rules.{rules}
 use mathlib.Core.Path.{sym}
 use Rattle.plan.proofs.plan_lawful.Goals as goal
 

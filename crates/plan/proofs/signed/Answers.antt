@@ -1,6 +1,5 @@
 -- `plan::signed` meets its contract: the upper half of the numbers is below zero. Assumes nothing.
 use Rattle.plan.proofs.Plans.{half_sub, signed_minus, signed_plus}
-use borrow.Author.Rules.{rules}
 use Rattle.plan.proofs.signed.Goals as goal
 
 pub overflow_sub-half : goal.overflow_sub-half

@@ -1,6 +1,5 @@
 -- `plan::unsigned` meets its contract. Assumes nothing.
 use Rattle.plan.proofs.Plans.{unsigned_is}
-use borrow.Author.Rules.{rules}
 use Rattle.plan.proofs.unsigned.Goals as goal
 
 pub returns : goal.returns

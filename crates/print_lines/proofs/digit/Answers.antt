@@ -1,7 +1,6 @@
 -- `print_lines::digit` meets its contract. Assumes nothing.
 use Rattle.hexadecimal.specs.Hexadecimal.{hex_digit}
 use Rattle.sequences.proofs.Tests.{tests}
-use borrow.Author.Rules.{rules}
 use Rattle.print_lines.proofs.digit.Goals as goal
 
 pub returns-then-d-lt10 : goal.returns-then-d-lt10

@@ -1,5 +1,4 @@
-use Rattle.print_lines.proofs.Loops.{DigitsSoFar, digits_start, digit_room, digits_next, digits_end}
-use borrow.Author.Rules.{rules}
+use Rattle.print_lines.proofs.Loops.{digits_start, digit_room, digits_next, digits_end}
 use native.Mathlib.Omega.{arith}
 use Rattle.print_lines.proofs.put_decimal.Goals as goal
 

@@ -1,7 +1,5 @@
 -- `print_lines::put_decimal` meets its contract. The loop's invariant is `DigitsSoFar`. Assumes nothing.
-use Rattle.print_lines.proofs.Loops.{DigitsSoFar, digits_start, digit_room, digits_next, digits_end}
-use borrow.Author.Rules.{rules}
-use native.Mathlib.Omega.{arith}
+use Rattle.print_lines.proofs.Loops.{DigitsSoFar}
 use Rattle.print_lines.proofs.put_decimal.Given as goal
 
 abbrev pub invariant-loop-v : goal.invariant-loop-v

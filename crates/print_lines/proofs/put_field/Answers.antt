@@ -1,6 +1,5 @@
 -- `print_lines::put_field` meets its contract: the number is put first, the word before it. Assumes nothing.
 use Rattle.print_lines.proofs.Laws.{both_put, shorter, left}
-use borrow.Author.Rules.{rules}
 use Rattle.print_lines.proofs.put_field.Goals as goal
 
 pub put_decimal-at-requires : goal.put_decimal-at-requires

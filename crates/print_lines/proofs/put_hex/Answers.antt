@@ -1,6 +1,5 @@
 use Prim.Native.Nat.{◌-◌}
-use Rattle.print_lines.proofs.Loops.{HexSoFar, hex_start, hex_next, hex_end}
-use borrow.Author.Rules.{rules}
+use Rattle.print_lines.proofs.Loops.{hex_start, hex_next, hex_end}
 use lib.ListN.{length-set}
 use native.Mathlib.Omega.{arith}
 use Rattle.print_lines.proofs.put_hex.Goals as goal

@@ -1,9 +1,5 @@
 -- `print_lines::put_hex` meets its contract. The loop's invariant is `HexSoFar`. Assumes nothing.
-use Prim.Native.Nat.{◌-◌}
-use Rattle.print_lines.proofs.Loops.{HexSoFar, hex_start, hex_next, hex_end}
-use borrow.Author.Rules.{rules}
-use lib.ListN.{length-set}
-use native.Mathlib.Omega.{arith}
+use Rattle.print_lines.proofs.Loops.{HexSoFar}
 use Rattle.print_lines.proofs.put_hex.Given as goal
 
 abbrev pub invariant-loop-i : goal.invariant-loop-i

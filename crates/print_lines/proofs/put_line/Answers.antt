@@ -1,7 +1,6 @@
 -- `print_lines::put_line` meets its contract: what is put last stands first. Assumes nothing.
 use Rattle.print_lines.proofs.Laws.{both_put, shorter, left, line_length, line_put}
 use Rattle.print_lines.specs.Lines.{field}
-use borrow.Author.Rules.{rules}
 use native.Mathlib.Omega.{arith}
 use Rattle.print_lines.proofs.put_line.Goals as goal
 

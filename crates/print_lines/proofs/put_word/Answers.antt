@@ -1,4 +1,4 @@
-use Rattle.print_lines.proofs.Loops.{WordSoFar, word_start, word_next, word_end}
+use Rattle.print_lines.proofs.Loops.{word_start, word_next, word_end}
 use native.Mathlib.Omega.{arith}
 use Rattle.print_lines.proofs.put_word.Goals as goal
 

@@ -1,6 +1,5 @@
 -- `print_lines::put_word` meets its contract. The loop's invariant is `WordSoFar`. Assumes nothing.
-use Rattle.print_lines.proofs.Loops.{WordSoFar, word_start, word_next, word_end}
-use native.Mathlib.Omega.{arith}
+use Rattle.print_lines.proofs.Loops.{WordSoFar}
 use Rattle.print_lines.proofs.put_word.Given as goal
 
 abbrev pub invariant-loop-k : goal.invariant-loop-k

@@ -3,7 +3,6 @@ use Prim.Native.Nat.{ℕ}
 use Rattle.filled.proofs.Filled.{names_long, qnames_long, events_long}
 use Rattle.machine.specs.Tables.{name_table, qname_table, event_table}
 use Rattle.print_reading.proofs.Texts.{rows_held, all_printed}
-use borrow.Author.Rules.{rules}
 use lib.ListN.{length-replicate}
 use native.Mathlib.Omega.{arith}
 use Rattle.print_reading.proofs.print.Goals as goal

@@ -1,6 +1,5 @@
 -- `print_reading::put_answer` meets its contract. Assumes nothing.
 use Rattle.print_reading.proofs.Texts.{answer_put}
-use borrow.Author.Rules.{rules}
 use Rattle.print_reading.proofs.put_answer.Goals as goal
 
 pub returns : goal.returns

@@ -2,7 +2,6 @@
 use Rattle.print_reading.proofs.Fields.{counts_put}
 use Rattle.print_reading.specs.Printed.{names_word, qnames_word, events_word, version_word}
 use Rattle.print_rows.proofs.Fields.{field_long}
-use borrow.Author.Rules.{rules}
 use native.Mathlib.Omega.{arith}
 use Rattle.print_reading.proofs.put_counts.Goals as goal
 

@@ -2,7 +2,6 @@
 use Rattle.print_lines.specs.Lines.{accepted_word, refused_word, at_word}
 use Rattle.print_reading.proofs.Fields.{verdict_accepted, verdict_refused}
 use Rattle.print_rows.proofs.Fields.{field_long, field_short}
-use borrow.Author.Rules.{rules}
 use native.Mathlib.Omega.{arith}
 use Rattle.print_reading.proofs.put_verdict.Goals as goal
 

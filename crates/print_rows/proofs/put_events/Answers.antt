@@ -1,6 +1,6 @@
 use Prim.Native.Nat.{◌+◌, ◌*◌}
 use Rattle.print_lines.proofs.Laws.{both_put}
-use Rattle.print_rows.proofs.Rows.{RowsSoFar, rows_start, rows_next, events_from, events_none, events_next, events_end}
+use Rattle.print_rows.proofs.Rows.{rows_start, rows_next, events_from, events_none, events_next, events_end}
 use Rattle.print_rows.specs.Room.{qnames_end, event_line}
 use native.Mathlib.Omega.{arith}
 use Rattle.print_rows.proofs.put_events.Goals as goal

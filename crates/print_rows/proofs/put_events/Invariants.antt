@@ -1,9 +1,7 @@
 -- `print_rows::put_events` meets its contract. The loop's invariant is `RowsSoFar`. Assumes nothing.
 use Prim.Native.Nat.{◌+◌, ◌*◌}
-use Rattle.print_lines.proofs.Laws.{both_put}
-use Rattle.print_rows.proofs.Rows.{RowsSoFar, rows_start, rows_next, events_from, events_none, events_next, events_end}
+use Rattle.print_rows.proofs.Rows.{RowsSoFar, events_from}
 use Rattle.print_rows.specs.Room.{qnames_end, event_line}
-use native.Mathlib.Omega.{arith}
 use Rattle.print_rows.proofs.put_events.Given as goal
 
 abbrev pub invariant-loop-k : goal.invariant-loop-k

@@ -1,11 +1,6 @@
 -- `print_rows::put_lines` meets its contract. The loop's invariant is `RowsSoFar`. Assumes nothing.
-use Prim.Native.Nat.{◌-◌, ◌≤◌}
-use Rattle.print_lines.proofs.Laws.{both_put}
-use Rattle.print_rows.proofs.Rows.{RowsSoFar, rows_start, rows_next, room_from, times_less, lines_from, lines_none, lines_next, lines_end}
+use Rattle.print_rows.proofs.Rows.{RowsSoFar, room_from, lines_from}
 use Rattle.print_rows.specs.Table.{line_room}
-use borrow.Author.Rules.{rules}
-use native.Mathlib.Nat.{mul-le-mul, mul-le-mul_left}
-use native.Mathlib.Omega.{arith}
 use Rattle.print_rows.proofs.put_lines.Given as goal
 
 abbrev pub invariant-loop-k : goal.invariant-loop-k

@@ -2,8 +2,7 @@ use Prim.Native.Nat.{◌-◌, ◌*◌}
 use Rattle.print_lines.proofs.Laws.{both_put}
 use Rattle.print_lines.specs.Lines.{field}
 use Rattle.print_rows.proofs.Fields.{field_short}
-use Rattle.print_rows.proofs.Rows.{RowsSoFar, rows_start, rows_next, numbers_from, numbers_none, numbers_next, numbers_end}
-use borrow.Author.Rules.{rules}
+use Rattle.print_rows.proofs.Rows.{rows_start, rows_next, numbers_from, numbers_none, numbers_next, numbers_end}
 use mathlib.Core.List.{[], ◌∷◌}
 use mathlib.Core.Path.{◌∙◌}
 use native.Mathlib.Omega.{arith}

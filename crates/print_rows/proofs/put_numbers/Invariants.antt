@@ -1,13 +1,6 @@
 -- `print_rows::put_numbers` meets its contract: a line feed, and the numbers from the last to the first. Assumes nothing.
 use Prim.Native.Nat.{◌-◌, ◌*◌}
-use Rattle.print_lines.proofs.Laws.{both_put}
-use Rattle.print_lines.specs.Lines.{field}
-use Rattle.print_rows.proofs.Fields.{field_short}
-use Rattle.print_rows.proofs.Rows.{RowsSoFar, rows_start, rows_next, numbers_from, numbers_none, numbers_next, numbers_end}
-use borrow.Author.Rules.{rules}
-use mathlib.Core.List.{[], ◌∷◌}
-use mathlib.Core.Path.{◌∙◌}
-use native.Mathlib.Omega.{arith}
+use Rattle.print_rows.proofs.Rows.{RowsSoFar, numbers_from}
 use Rattle.print_rows.proofs.put_numbers.Given as goal
 
 abbrev pub invariant-loop-k : goal.invariant-loop-k

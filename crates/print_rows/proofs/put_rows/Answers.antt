@@ -1,7 +1,6 @@
 -- `print_rows::put_rows` meets its contract: what is put last stands first. Assumes nothing.
 use Rattle.machine.specs.Tables.{event_rows_in}
 use Rattle.print_rows.proofs.Texts.{rows_put}
-use borrow.Author.Rules.{rules}
 use native.Mathlib.Omega.{arith}
 use Rattle.print_rows.proofs.put_rows.Goals as goal
 

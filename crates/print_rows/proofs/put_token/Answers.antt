@@ -1,6 +1,5 @@
 -- `print_rows::put_token` meets its contract. Assumes nothing.
 use Rattle.print_rows.proofs.Fields.{token_length, token_put}
-use borrow.Author.Rules.{rules}
 use native.Mathlib.Omega.{arith}
 use Rattle.print_rows.proofs.put_token.Goals as goal
 

@@ -3,7 +3,6 @@ use Prim.Native.Nat.{ℕ}
 use Rattle.print_lines.proofs.Laws.{whole_put}
 use Rattle.print_value.proofs.Values.{part_short, lines_shown, printed_none, printed_some, payload_is, rest_bytes}
 use Rattle.sequences.specs.Lists.{Bytes}
-use borrow.Author.Rules.{rules}
 use lib.ListN.{length-replicate}
 use mathlib.Core.Path.{◌∙◌, sym}
 use native.Mathlib.Omega.{arith}

@@ -1,6 +1,5 @@
 -- `print_value::put_refusal` meets its contract. Assumes nothing.
 use Rattle.print_value.proofs.Laws.{refusal_room, refusal_put}
-use borrow.Author.Rules.{rules}
 use native.Mathlib.Omega.{arith}
 use Rattle.print_value.proofs.put_refusal.Goals as goal
 

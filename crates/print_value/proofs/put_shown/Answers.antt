@@ -1,6 +1,5 @@
 -- `print_value::put_shown` meets its contract: a law for each answer. Assumes nothing.
 use Rattle.print_value.proofs.Laws.{own_put, made_put, short_put, none_put}
-use borrow.Author.Rules.{rules}
 use Rattle.print_value.proofs.put_shown.Goals as goal
 
 pub put_text-requires : goal.put_text-requires

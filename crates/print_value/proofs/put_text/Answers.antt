@@ -2,7 +2,6 @@
 use Rattle.hexadecimal.proofs.Hex.{length_hex}
 use Rattle.print_lines.proofs.Laws.{long_digits}
 use Rattle.print_value.proofs.Laws.{text_put}
-use borrow.Author.Rules.{rules}
 use lib.ListN.{length}
 use native.Mathlib.Omega.{arith}
 use Rattle.print_value.proofs.put_text.Goals as goal

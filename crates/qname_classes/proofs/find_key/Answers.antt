@@ -1,8 +1,6 @@
-use Prim.Native.Nat.{◌-◌, ◌%◌}
-use Rattle.classes.proofs.Trees.{Way, way_first, way_before, way_on, way_hit, way_end}
-use Rattle.classes.specs.Search.{key_at}
+use Prim.Native.Nat.{◌%◌}
+use Rattle.classes.proofs.Trees.{way_first, way_before, way_on, way_hit, way_end}
 use Rattle.classes.specs.Tree.{below}
-use borrow.Author.Rules.{rules}
 use mathlib.Core.Path.{sym, ◌∙◌}
 use native.Mathlib.Omega.{arith}
 use Rattle.qname_classes.proofs.find_key.Goals as goal

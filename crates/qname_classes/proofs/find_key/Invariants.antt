@@ -1,11 +1,7 @@
 -- `qname_classes::find_key` meets its contract. The invariant is `Way`: the key of row `r` is met from place `p` on, if an earlier row
-use Prim.Native.Nat.{◌-◌, ◌%◌}
-use Rattle.classes.proofs.Trees.{Way, way_first, way_before, way_on, way_hit, way_end}
+use Prim.Native.Nat.{◌-◌}
+use Rattle.classes.proofs.Trees.{Way}
 use Rattle.classes.specs.Search.{key_at}
-use Rattle.classes.specs.Tree.{below}
-use borrow.Author.Rules.{rules}
-use mathlib.Core.Path.{sym, ◌∙◌}
-use native.Mathlib.Omega.{arith}
 use Rattle.qname_classes.proofs.find_key.Given as goal
 
 abbrev pub invariant-loop-j : goal.invariant-loop-j

@@ -1,6 +1,5 @@
 -- `qname_classes::key_of` meets its contract. Assumes nothing.
 use Rattle.classes.proofs.Keys.{key_is}
-use borrow.Author.Rules.{rules}
 use Rattle.qname_classes.proofs.key_of.Goals as goal
 
 pub returns : goal.returns

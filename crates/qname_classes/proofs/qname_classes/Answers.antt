@@ -1,7 +1,6 @@
-use Prim.Native.Nat.{ℕ, ◌-◌}
+use Prim.Native.Nat.{ℕ}
 use Rattle.classes.proofs.Trees.{spot_holds}
-use Rattle.qname_classes.proofs.Qnames.{Keyed, keyed_none, keyed_next, keyed_all, keyables}
-use borrow.Author.Rules.{rules}
+use Rattle.qname_classes.proofs.Qnames.{keyed_none, keyed_next, keyed_all, keyables}
 use lib.ListN.{length-replicate, get_or-replicate}
 use native.Mathlib.Omega.{arith}
 use Rattle.qname_classes.proofs.qname_classes.Goals as goal

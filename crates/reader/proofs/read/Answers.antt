@@ -2,7 +2,6 @@
 use Rattle.machine.proofs.Whole.{too_long_fact, header_on}
 use Rattle.machine.specs.Machine.{room_in}
 use Rattle.reader.proofs.Whole.{unread, is_header, begins}
-use borrow.Author.Rules.{rules}
 use lib.ListN.{length}
 use mathlib.Core.Path.{sym}
 use Rattle.reader.proofs.read.Goals as goal

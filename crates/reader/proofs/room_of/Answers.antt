@@ -1,5 +1,4 @@
 -- `reader::room_of` meets its contract. Assumes nothing.
-use borrow.Author.Rules.{rules}
 use Rattle.reader.proofs.room_of.Goals as goal
 
 pub returns : goal.returns

@@ -1,10 +1,7 @@
-use Prim.Native.Nat.{ℕ, suc, ◌-◌}
-use Rattle.machine.specs.Machine.{run, started}
+use Prim.Native.Nat.{ℕ}
 use Rattle.reader.proofs.Short.{common_fine, ended, begun, valued}
-use Rattle.reader.proofs.Walks.{Walks, goes, held_here, going, nearer, ending, starting}
-use Rattle.rows.specs.Tables.{tables}
-use borrow.Author.Rules.{rules}
-use lib.ListN.{length, length-replicate}
+use Rattle.reader.proofs.Walks.{goes, held_here, going, nearer, ending, starting}
+use lib.ListN.{length-replicate}
 use native.Mathlib.Omega.{arith}
 use Rattle.reader.proofs.walk.Goals as goal
 

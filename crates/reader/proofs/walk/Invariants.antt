@@ -1,12 +1,9 @@
 -- `reader::walk` meets its contract. The invariant: the machine's run from the state reached is the whole run (`Walks`). The measure is the bytes left. Assumes nothing.
-use Prim.Native.Nat.{ℕ, suc, ◌-◌}
+use Prim.Native.Nat.{suc, ◌-◌}
 use Rattle.machine.specs.Machine.{run, started}
-use Rattle.reader.proofs.Short.{common_fine, ended, begun, valued}
-use Rattle.reader.proofs.Walks.{Walks, goes, held_here, going, nearer, ending, starting}
+use Rattle.reader.proofs.Walks.{Walks}
 use Rattle.rows.specs.Tables.{tables}
-use borrow.Author.Rules.{rules}
-use lib.ListN.{length, length-replicate}
-use native.Mathlib.Omega.{arith}
+use lib.ListN.{length}
 use Rattle.reader.proofs.walk.Given as goal
 
 abbrev pub invariant-loop-events : goal.invariant-loop-events

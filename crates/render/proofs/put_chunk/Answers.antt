@@ -3,7 +3,6 @@ use Prim.Native.Nat.{◌+◌, ◌-◌, ◌*◌}
 use Rattle.render_elements.proofs.Rows.{row_as, row_hashed, out_row, out_in, span, part_few}
 use Rattle.sequences.proofs.Units.{units_long}
 use Rattle.sequences.specs.Lists.{units_of}
-use borrow.Author.Rules.{rules}
 use lib.ListN.{take, drop}
 use mathlib.Core.Path.{refl, ap}
 use native.Mathlib.Omega.{arith}

@@ -1,6 +1,5 @@
 -- `render::put_other` meets its contract: one way for each token. Assumes nothing.
 use Rattle.render_elements.proofs.Rows.{row_as, row_none, row_value, row_F6, row_F5, row_F2, row_silent, attribute_F6, attribute_F5, attribute_stays, depth_same, low_apart, apart, room_chunk}
-use borrow.Author.Rules.{rules}
 use mathlib.Core.Path.{refl}
 use native.Mathlib.Omega.{arith}
 use Rattle.render.proofs.put_other.Goals as goal

@@ -1,6 +1,5 @@
 -- `render::put_row` meets its contract. Assumes nothing.
 use Rattle.render_elements.proofs.Rows.{row_as, row_F7, attribute_stays, depth_less, apart, done_open, done_inner}
-use borrow.Author.Rules.{rules}
 use native.Mathlib.Omega.{arith}
 use Rattle.render.proofs.put_row.Goals as goal
 

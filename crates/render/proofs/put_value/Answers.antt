@@ -1,6 +1,5 @@
 -- `render::put_value` meets its contract: nothing outside of a record nor within a skipped attribute. Assumes nothing.
 use Rattle.render_elements.proofs.Rows.{row_as, row_none, row_hashed, out_row, out_in, value_skipped, value_counted}
-use borrow.Author.Rules.{rules}
 use mathlib.Core.Path.{refl}
 use Rattle.render.proofs.put_value.Goals as goal
 

@@ -1,7 +1,6 @@
 -- `render::put_valued` meets its contract. Assumes nothing.
 use Rattle.render_elements.proofs.Rows.{is_value_lem, room_value, span, part_few, counted_qname, counted_zero, counted_value}
 use Rattle.symbols.proofs.Going.{hashed_as, hashed_none}
-use borrow.Author.Rules.{rules}
 use mathlib.Core.Path.{refl}
 use native.Mathlib.Omega.{arith}
 use Rattle.render.proofs.put_valued.Goals as goal

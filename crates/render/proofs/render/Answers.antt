@@ -1,7 +1,6 @@
-use Prim.Native.Nat.{ℕ, ◌-◌}
-use Rattle.render.proofs.Loop.{RowsDone, rows_first, rows_turn, rows_end_fact, row_fits, row_room, n_small, syms_long, starts_long, hashes_long}
+use Prim.Native.Nat.{ℕ}
+use Rattle.render.proofs.Loop.{rows_first, rows_turn, rows_end_fact, row_fits, row_room, n_small, syms_long, starts_long, hashes_long}
 use Rattle.render.proofs.Names.{named_row}
-use borrow.Author.Rules.{rules}
 use lib.ListN.{length-replicate}
 use mathlib.Core.Path.{◌∙◌}
 use native.Mathlib.Omega.{arith}

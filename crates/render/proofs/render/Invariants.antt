@@ -1,11 +1,6 @@
 -- `render::render` meets its contract. The loop's invariant is `RowsDone`: what the arrays hold when k rows are done. Assumes nothing.
-use Prim.Native.Nat.{ℕ, ◌-◌}
-use Rattle.render.proofs.Loop.{RowsDone, rows_first, rows_turn, rows_end_fact, row_fits, row_room, n_small, syms_long, starts_long, hashes_long}
-use Rattle.render.proofs.Names.{named_row}
-use borrow.Author.Rules.{rules}
-use lib.ListN.{length-replicate}
-use mathlib.Core.Path.{◌∙◌}
-use native.Mathlib.Omega.{arith}
+use Prim.Native.Nat.{◌-◌}
+use Rattle.render.proofs.Loop.{RowsDone}
 use Rattle.render.proofs.render.Given as goal
 
 abbrev pub invariant-loop-k : goal.invariant-loop-k

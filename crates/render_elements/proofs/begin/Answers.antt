@@ -1,6 +1,5 @@
 -- `render_elements::begin` meets its contract: a record begins where no element is open. Assumes nothing.
 use Rattle.render_elements.proofs.Rows.{begun_deep, begun_here}
-use borrow.Author.Rules.{rules}
 use Rattle.render_elements.proofs.begin.Goals as goal
 
 pub returns-then-p-ne0 : goal.returns-then-p-ne0

@@ -1,6 +1,5 @@
 -- `render_elements::close` meets its contract: outside of a record nothing is written. Assumes nothing.
 use Rattle.render_elements.proofs.Rows.{row_as, row_hashed, out_in, close_out, end_mark}
-use borrow.Author.Rules.{rules}
 use mathlib.Core.Path.{refl}
 use Rattle.render_elements.proofs.close.Goals as goal
 

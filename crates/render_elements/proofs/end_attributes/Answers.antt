@@ -2,7 +2,6 @@
 use Rattle.render_elements.proofs.Rows.{row_as, row_hashed, out_row, out_in}
 use Rattle.render_elements.specs.Effects.{attributed}
 use Rattle.render_elements.specs.declared.Progress.{Progress}
-use borrow.Author.Rules.{rules}
 use mathlib.Core.Path.{refl, ap, ◌∙◌}
 use Rattle.render_elements.proofs.end_attributes.Goals as goal
 

@@ -1,6 +1,5 @@
 -- `render_elements::open` meets its contract. Assumes nothing.
 use Rattle.render_elements.proofs.Rows.{row_as, row_hashed, opened_is}
-use borrow.Author.Rules.{rules}
 use mathlib.Core.Path.{refl}
 use Rattle.render_elements.proofs.open.Goals as goal
 

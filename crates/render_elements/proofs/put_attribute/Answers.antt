@@ -4,7 +4,6 @@ use Rattle.render_elements.specs.Codes.{close_by}
 use Rattle.render_elements.specs.Effects.{attributed}
 use Rattle.render_elements.specs.declared.Progress.{Progress}
 use Rattle.symbols.proofs.Going.{hashed_then, put_long}
-use borrow.Author.Rules.{rules}
 use mathlib.Core.Path.{refl, ap, ◌∙◌}
 use native.Mathlib.Omega.{arith}
 use Rattle.render_elements.proofs.put_attribute.Goals as goal

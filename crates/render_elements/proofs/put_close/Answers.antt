@@ -1,7 +1,6 @@
 -- `render_elements::put_close` meets its contract. Assumes nothing.
 use Rattle.render_elements.proofs.Rows.{close_one, close_none}
 use Rattle.symbols.proofs.Going.{hashed_as, hashed_none}
-use borrow.Author.Rules.{rules}
 use Rattle.render_elements.proofs.put_close.Goals as goal
 
 pub returns-then-attribute-eq-COUNTED_OPEN : goal.returns-then-attribute-eq-COUNTED_OPEN

@@ -1,7 +1,6 @@
 -- `rewriter::rewrite` meets its contract. Assumes nothing.
 use Prim.Native.Nat.{ℕ}
 use Rattle.rewriter_contract.proofs.Forms.{not_read, names_asks, qnames_asks, prepared, version_few, formed}
-use borrow.Author.Rules.{rules}
 use lib.ListN.{replicate, length-replicate}
 use Rattle.rewriter.proofs.rewrite.Goals as goal
 

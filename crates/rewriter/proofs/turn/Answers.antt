@@ -1,7 +1,6 @@
 -- `rewriter::turn` meets its contract. Assumes nothing.
 use Rattle.form_items.specs.Walk.{tables}
 use Rattle.rewriter.proofs.Walks.{leave_there, item_there, room_there, turned}
-use borrow.Author.Rules.{rules}
 use Rattle.rewriter.proofs.turn.Goals as goal
 
 pub depth_after-depth-requires : goal.depth_after-depth-requires

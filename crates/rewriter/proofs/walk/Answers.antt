@@ -1,8 +1,6 @@
-use Prim.Native.Nat.{◌-◌}
 use Rattle.form_items.specs.Walk.{tables}
 use Rattle.form_output.proofs.Laws.{put_length}
-use Rattle.rewriter.proofs.Walks.{Inv, zeros, begins, asks, goes_on, whole}
-use borrow.Author.Rules.{rules}
+use Rattle.rewriter.proofs.Walks.{zeros, begins, asks, goes_on, whole}
 use mathlib.Core.Path.{◌∙◌}
 use native.Mathlib.Omega.{arith}
 use Rattle.rewriter.proofs.walk.Goals as goal

@@ -1,11 +1,7 @@
 -- `rewriter::walk` meets its contract. Assumes nothing.
 use Prim.Native.Nat.{◌-◌}
 use Rattle.form_items.specs.Walk.{tables}
-use Rattle.form_output.proofs.Laws.{put_length}
-use Rattle.rewriter.proofs.Walks.{Inv, zeros, begins, asks, goes_on, whole}
-use borrow.Author.Rules.{rules}
-use mathlib.Core.Path.{◌∙◌}
-use native.Mathlib.Omega.{arith}
+use Rattle.rewriter.proofs.Walks.{Inv}
 use Rattle.rewriter.proofs.walk.Given as goal
 
 abbrev pub invariant-loop-i : goal.invariant-loop-i

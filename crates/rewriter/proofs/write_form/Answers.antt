@@ -3,7 +3,6 @@ use Prim.Native.Nat.{ℕ}
 use Rattle.form.specs.Canonical.{canonical}
 use Rattle.machine.specs.Tables.{events_in}
 use Rattle.rewriter_contract.proofs.Forms.{form_long, room_small, form_written}
-use borrow.Author.Rules.{rules}
 use lib.ListN.{length-replicate}
 use mathlib.Core.Logic.{inl, inr}
 use native.Mathlib.Omega.{arith}

@@ -1,5 +1,4 @@
 -- `rows::name_row` meets its contract. Assumes nothing.
-use borrow.Author.Rules.{rules}
 use Rattle.rows.proofs.name_row.Goals as goal
 
 pub returns : goal.returns

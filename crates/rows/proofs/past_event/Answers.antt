@@ -1,5 +1,4 @@
 -- `rows::past_event` meets its contract. Assumes nothing.
-use borrow.Author.Rules.{rules}
 use Rattle.rows.proofs.past_event.Goals as goal
 
 pub returns : goal.returns

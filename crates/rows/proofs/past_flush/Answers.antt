@@ -1,5 +1,4 @@
 -- `rows::past_flush` meets its contract. Assumes nothing.
-use borrow.Author.Rules.{rules}
 use Rattle.rows.proofs.past_flush.Goals as goal
 
 pub returns : goal.returns

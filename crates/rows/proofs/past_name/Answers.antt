@@ -1,5 +1,4 @@
 -- `rows::past_name` meets its contract. Assumes nothing.
-use borrow.Author.Rules.{rules}
 use Rattle.rows.proofs.past_name.Goals as goal
 
 pub returns : goal.returns

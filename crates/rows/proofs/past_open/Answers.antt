@@ -1,5 +1,4 @@
 -- `rows::past_open` meets its contract. Assumes nothing.
-use borrow.Author.Rules.{rules}
 use Rattle.rows.proofs.past_open.Goals as goal
 
 pub returns : goal.returns

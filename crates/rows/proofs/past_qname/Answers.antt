@@ -1,5 +1,4 @@
 -- `rows::past_qname` meets its contract. Assumes nothing.
-use borrow.Author.Rules.{rules}
 use Rattle.rows.proofs.past_qname.Goals as goal
 
 pub returns : goal.returns

@@ -1,5 +1,4 @@
 -- `rows::put_name` meets its contract. Assumes nothing.
-use borrow.Author.Rules.{rules}
 use lib.ListN.{length-set}
 use native.Mathlib.Omega.{arith}
 use Rattle.rows.proofs.put_name.Goals as goal

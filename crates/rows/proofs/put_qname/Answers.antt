@@ -1,5 +1,4 @@
 -- `rows::put_qname` meets its contract. Assumes nothing.
-use borrow.Author.Rules.{rules}
 use lib.ListN.{length-set}
 use native.Mathlib.Omega.{arith}
 use Rattle.rows.proofs.put_qname.Goals as goal

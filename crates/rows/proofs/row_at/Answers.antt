@@ -1,6 +1,5 @@
 -- `rows::row_at` meets its contract. Assumes nothing.
 use Rattle.rows.proofs.Stack.{row_none, row_found}
-use borrow.Author.Rules.{rules}
 use Rattle.rows.proofs.row_at.Goals as goal
 
 pub returns-then-number-eq0 : goal.returns-then-number-eq0

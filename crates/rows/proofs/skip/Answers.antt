@@ -1,5 +1,4 @@
 -- `rows::skip` meets its contract. Assumes nothing.
-use borrow.Author.Rules.{rules}
 use mathlib.Core.Path.{◌∙◌}
 use Rattle.rows.proofs.skip.Goals as goal
 

@@ -1,7 +1,6 @@
 -- `scan::class_step` meets its contract: a function for each class, and one for both classes of values. Assumes nothing.
 use Rattle.scan.proofs.Valued.{valued}
 use Rattle.scan.specs.Steps.{class_step}
-use borrow.Author.Rules.{rules}
 use mathlib.Core.Path.{◌∙◌}
 use Rattle.scan.proofs.class_step.Goals as goal
 

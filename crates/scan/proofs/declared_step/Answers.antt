@@ -1,6 +1,5 @@
 -- `scan::declared_step` meets its contract. Assumes nothing.
 use Rattle.scan.proofs.Steps.{declared_encoding, declared_wrong, declared_standalone}
-use borrow.Author.Rules.{rules}
 use mathlib.Core.Path.{sym, ◌∙◌}
 use Rattle.scan.proofs.declared_step.Goals as goal
 

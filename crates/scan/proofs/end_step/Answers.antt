@@ -1,6 +1,5 @@
 -- `scan::end_step` meets its contract. Assumes nothing.
 use Rattle.scan.proofs.Steps.{end_accepted, end_missing}
-use borrow.Author.Rules.{rules}
 use mathlib.Core.Path.{◌∙◌}
 use Rattle.scan.proofs.end_step.Goals as goal
 

@@ -1,7 +1,6 @@
 -- `scan::step_at` meets its contract; the bounds follow from the definition. Assumes nothing.
 use Rattle.scan.proofs.Fine.{found_fine}
 use Rattle.scan.proofs.Steps.{ended, in_declaration_fact, at_token}
-use borrow.Author.Rules.{rules}
 use mathlib.Core.Path.{refl, ◌∙◌}
 use Rattle.scan.proofs.step_at.Goals as goal
 

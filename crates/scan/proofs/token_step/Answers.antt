@@ -1,6 +1,5 @@
 -- `scan::token_step` meets its contract: 5 before anything else. Assumes nothing.
 use Rattle.scan.proofs.Steps.{token_on, token_refused}
-use borrow.Author.Rules.{rules}
 use mathlib.Core.Path.{◌∙◌}
 use Rattle.scan.proofs.token_step.Goals as goal
 

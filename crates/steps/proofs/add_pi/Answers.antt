@@ -1,5 +1,4 @@
 -- `steps::add_pi` meets its contract. Assumes nothing.
-use borrow.Author.Rules.{rules}
 use mathlib.Core.Path.{◌∙◌}
 use Rattle.steps.proofs.add_pi.Goals as goal
 

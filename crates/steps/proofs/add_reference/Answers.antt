@@ -1,5 +1,4 @@
 -- `steps::add_reference` meets its contract. Assumes nothing.
-use borrow.Author.Rules.{rules}
 use mathlib.Core.Path.{◌∙◌}
 use Rattle.steps.proofs.add_reference.Goals as goal
 

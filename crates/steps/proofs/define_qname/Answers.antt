@@ -1,5 +1,4 @@
 -- `steps::define_qname` meets its contract. Assumes nothing.
-use borrow.Author.Rules.{rules}
 use mathlib.Core.Path.{◌∙◌}
 use Rattle.steps.proofs.define_qname.Goals as goal
 

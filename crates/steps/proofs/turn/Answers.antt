@@ -1,9 +1,6 @@
 -- `steps::turn` meets its contract: a function for each step. Assumes nothing.
-use Rattle.scan.specs.Bounds.{Fine}
-use Rattle.scan.specs.declared.Step.{Step}
 use Rattle.steps.proofs.Known.{fine_at}
-use borrow.Author.Rules.{rules}
-use mathlib.Core.Path.{◌≡◌, refl}
+use mathlib.Core.Path.{refl}
 use native.Mathlib.Omega.{arith}
 use Rattle.steps.proofs.turn.Goals as goal
 

@@ -1,7 +1,6 @@
 -- `symbols::put_blob` meets its contract. Assumes nothing.
 use Prim.Native.Nat.{ℕ}
 use Rattle.symbols.proofs.Texts.{blob_begins, blob_loaded}
-use borrow.Author.Rules.{rules}
 use lib.ListN.{length-replicate}
 use native.Mathlib.Omega.{arith}
 use Rattle.symbols.proofs.put_blob.Goals as goal

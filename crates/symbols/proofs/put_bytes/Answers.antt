@@ -1,11 +1,7 @@
-use Prim.Native.Nat.{◌≤◌, ◌+◌, ◌-◌}
-use Rattle.meaning.specs.Codes.{mark}
-use Rattle.symbols.proofs.Going.{Going, go_first, go_step, go_end, go_to}
+use Rattle.symbols.proofs.Going.{go_first, go_step, go_end, go_to}
 use Rattle.symbols.proofs.Texts.{bytes_step, bytes_end}
-use borrow.Author.Rules.{rules}
-use lib.ListN.{length, drop, length-set}
-use mathlib.Core.List.{map}
-use mathlib.Core.Path.{◌≡◌, refl}
+use lib.ListN.{length-set}
+use mathlib.Core.Path.{refl}
 use native.Mathlib.Omega.{arith}
 use Rattle.symbols.proofs.put_bytes.Goals as goal
 

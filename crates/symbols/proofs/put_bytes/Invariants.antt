@@ -1,13 +1,10 @@
 -- `symbols::put_bytes` meets its contract. The loop's invariant is `Going`: what is stored, what is still to come, and the hash. Assumes nothing.
 use Prim.Native.Nat.{◌≤◌, ◌+◌, ◌-◌}
 use Rattle.meaning.specs.Codes.{mark}
-use Rattle.symbols.proofs.Going.{Going, go_first, go_step, go_end, go_to}
-use Rattle.symbols.proofs.Texts.{bytes_step, bytes_end}
-use borrow.Author.Rules.{rules}
-use lib.ListN.{length, drop, length-set}
+use Rattle.symbols.proofs.Going.{Going}
+use lib.ListN.{length, drop}
 use mathlib.Core.List.{map}
-use mathlib.Core.Path.{◌≡◌, refl}
-use native.Mathlib.Omega.{arith}
+use mathlib.Core.Path.{◌≡◌}
 use Rattle.symbols.proofs.put_bytes.Given as goal
 
 abbrev pub invariant-loop-k : goal.invariant-loop-k

@@ -1,10 +1,7 @@
-use Prim.Native.Nat.{◌≤◌, ◌+◌, ◌-◌}
-use Rattle.plan.specs.Plans.{units_by}
-use Rattle.symbols.proofs.Going.{Going, go_first, go_step, go_end, go_to}
+use Rattle.symbols.proofs.Going.{go_first, go_step, go_end, go_to}
 use Rattle.symbols.proofs.Texts.{list_step, list_end}
-use borrow.Author.Rules.{rules}
-use lib.ListN.{length, drop, length-set}
-use mathlib.Core.Path.{◌≡◌, refl, ◌∙◌}
+use lib.ListN.{length-set}
+use mathlib.Core.Path.{refl, ◌∙◌}
 use native.Mathlib.Omega.{arith}
 use Rattle.symbols.proofs.put_made.Goals as goal
 

@@ -1,12 +1,9 @@
 -- `symbols::put_made` meets its contract. The loop's invariant is `Going`: what is stored, what is still to come, and the hash. Assumes nothing.
 use Prim.Native.Nat.{◌≤◌, ◌+◌, ◌-◌}
 use Rattle.plan.specs.Plans.{units_by}
-use Rattle.symbols.proofs.Going.{Going, go_first, go_step, go_end, go_to}
-use Rattle.symbols.proofs.Texts.{list_step, list_end}
-use borrow.Author.Rules.{rules}
-use lib.ListN.{length, drop, length-set}
-use mathlib.Core.Path.{◌≡◌, refl, ◌∙◌}
-use native.Mathlib.Omega.{arith}
+use Rattle.symbols.proofs.Going.{Going}
+use lib.ListN.{length, drop}
+use mathlib.Core.Path.{◌≡◌}
 use Rattle.symbols.proofs.put_made.Given as goal
 
 abbrev pub invariant-loop-k : goal.invariant-loop-k

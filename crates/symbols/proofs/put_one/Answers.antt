@@ -1,6 +1,5 @@
 -- `symbols::put_one` meets its contract. Assumes nothing.
 use Rattle.symbols.proofs.Going.{hashed_one}
-use borrow.Author.Rules.{rules}
 use Rattle.symbols.proofs.put_one.Goals as goal
 
 pub returns : goal.returns

@@ -3,7 +3,6 @@ use Rattle.sequences.proofs.Units.{units_long}
 use Rattle.symbols.proofs.Going.{hashed_as}
 use Rattle.symbols.proofs.Rooms.{plan_room}
 use Rattle.symbols.proofs.Texts.{way_none, way_own, way_made, way_left}
-use borrow.Author.Rules.{rules}
 use mathlib.Core.Path.{sym, ◌∙◌}
 use native.Mathlib.Omega.{arith}
 use Rattle.symbols.proofs.put_payload.Goals as goal

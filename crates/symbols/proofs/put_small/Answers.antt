@@ -1,7 +1,6 @@
 -- `symbols::put_small` meets its contract: the text is what the small buffer ends with. Assumes nothing.
 use Rattle.symbols.proofs.Going.{hashed_as}
 use Rattle.symbols.proofs.Texts.{small_part}
-use borrow.Author.Rules.{rules}
 use Rattle.symbols.proofs.put_small.Goals as goal
 
 pub put_units-requires : goal.put_units-requires

@@ -1,9 +1,7 @@
-use Prim.Native.Nat.{◌≤◌, ◌+◌, ◌-◌, ◌*◌, ◌/◌}
+use Prim.Native.Nat.{◌+◌, ◌/◌}
 use Rattle.sequences.proofs.Units.{unit_step, unit_end, unit_room}
-use Rattle.sequences.specs.Lists.{units_of}
-use Rattle.symbols.proofs.Going.{Going, go_first, go_step, go_end, go_to}
-use borrow.Author.Rules.{rules}
-use lib.ListN.{length, drop, length-set}
+use Rattle.symbols.proofs.Going.{go_first, go_step, go_end, go_to}
+use lib.ListN.{length, length-set}
 use mathlib.Core.Path.{◌≡◌, refl}
 use native.Mathlib.Omega.{arith}
 use Rattle.symbols.proofs.put_units.Goals as goal

@@ -1,12 +1,9 @@
 -- `symbols::put_units` meets its contract. The loop's invariant is `Going`: what is stored, what is still to come, and the hash. Assumes nothing.
-use Prim.Native.Nat.{◌≤◌, ◌+◌, ◌-◌, ◌*◌, ◌/◌}
-use Rattle.sequences.proofs.Units.{unit_step, unit_end, unit_room}
+use Prim.Native.Nat.{◌≤◌, ◌+◌, ◌-◌, ◌*◌}
 use Rattle.sequences.specs.Lists.{units_of}
-use Rattle.symbols.proofs.Going.{Going, go_first, go_step, go_end, go_to}
-use borrow.Author.Rules.{rules}
-use lib.ListN.{length, drop, length-set}
-use mathlib.Core.Path.{◌≡◌, refl}
-use native.Mathlib.Omega.{arith}
+use Rattle.symbols.proofs.Going.{Going}
+use lib.ListN.{length, drop}
+use mathlib.Core.Path.{◌≡◌}
 use Rattle.symbols.proofs.put_units.Given as goal
 
 abbrev pub invariant-loop-k : goal.invariant-loop-k

@@ -1,7 +1,6 @@
 -- `symbols::put_value` meets its contract. Assumes nothing.
 use Rattle.symbols.proofs.Going.{hashed_as, hashed_then}
 use Rattle.symbols.proofs.Values.{value_put}
-use borrow.Author.Rules.{rules}
 use Rattle.symbols.proofs.put_value.Goals as goal
 
 pub returns : goal.returns

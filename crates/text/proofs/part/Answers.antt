@@ -1,5 +1,4 @@
 -- `text::part` meets its contract. Assumes nothing.
-use borrow.Author.Rules.{rules}
 use Rattle.text.proofs.part.Goals as goal
 
 pub returns-in-Own : goal.returns-in-Own

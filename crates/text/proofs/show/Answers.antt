@@ -1,6 +1,5 @@
 -- `text::show` meets its contract: each arm by the law of its plan. Assumes nothing.
 use Rattle.text.proofs.Laid.{lays_length, number_told, payload_told, shows_none, shows_own, shows_number, shows_boolean, shows_hex, shows_base64}
-use borrow.Author.Rules.{rules}
 use Rattle.text.proofs.show.Goals as goal
 
 pub plan_at-requires : goal.plan_at-requires

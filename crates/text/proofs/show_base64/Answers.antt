@@ -1,6 +1,5 @@
 -- `text::show_base64` meets its contract: the room decides. Assumes nothing.
 use Rattle.text.proofs.Laid.{lays_short, lays_made, need_base64}
-use borrow.Author.Rules.{rules}
 use Rattle.text.proofs.show_base64.Goals as goal
 
 pub returns-then-buffer-size : goal.returns-then-buffer-size

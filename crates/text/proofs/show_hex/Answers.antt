@@ -1,6 +1,5 @@
 -- `text::show_hex` meets its contract: the room decides. Assumes nothing.
 use Rattle.text.proofs.Laid.{lays_short, lays_made, need_hex}
-use borrow.Author.Rules.{rules}
 use Rattle.text.proofs.show_hex.Goals as goal
 
 pub returns-then-buffer-need : goal.returns-then-buffer-need

@@ -1,6 +1,5 @@
 -- `twins::after` meets its contract. Assumes nothing.
 use Rattle.sequences.proofs.Tests.{tests}
-use borrow.Author.Rules.{rules}
 use native.Mathlib.Omega.{arith}
 use Rattle.twins.proofs.after.Goals as goal
 

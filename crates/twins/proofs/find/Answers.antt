@@ -1,7 +1,5 @@
-use Prim.Native.Nat.{ℕ, ◌-◌, ◌%◌}
-use Rattle.twins.proofs.Chain.{Walk, walk_first, walk_on, walk_hit, walk_end}
-use Rattle.twins.specs.Parts.{part_at}
-use borrow.Author.Rules.{rules}
+use Prim.Native.Nat.{ℕ, ◌%◌}
+use Rattle.twins.proofs.Chain.{walk_first, walk_on, walk_hit, walk_end}
 use mathlib.Core.Path.{ap}
 use native.Mathlib.Omega.{arith}
 use Rattle.twins.proofs.find.Goals as goal

@@ -1,10 +1,7 @@
 -- `twins::find` meets its contract. The loop's invariant is `Walk`: no equal part before j, and j is in the slot of i.
-use Prim.Native.Nat.{ℕ, ◌-◌, ◌%◌}
-use Rattle.twins.proofs.Chain.{Walk, walk_first, walk_on, walk_hit, walk_end}
+use Prim.Native.Nat.{◌-◌}
+use Rattle.twins.proofs.Chain.{Walk}
 use Rattle.twins.specs.Parts.{part_at}
-use borrow.Author.Rules.{rules}
-use mathlib.Core.Path.{ap}
-use native.Mathlib.Omega.{arith}
 use Rattle.twins.proofs.find.Given as goal
 
 abbrev pub invariant-loop-j : goal.invariant-loop-j

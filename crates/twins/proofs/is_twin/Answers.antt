@@ -1,7 +1,6 @@
 -- `twins::is_twin` meets its contract: equal parts have equal hashes. Assumes nothing.
 use Rattle.hash.specs.Hash.{hash_of}
 use Rattle.sequences.proofs.Same.{not_same}
-use borrow.Author.Rules.{rules}
 use mathlib.Core.Path.{sym, ap, ◌∙◌}
 use Rattle.twins.proofs.is_twin.Goals as goal
 

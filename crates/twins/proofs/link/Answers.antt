@@ -1,7 +1,5 @@
 use Prim.Native.Nat.{ℕ, ◌+◌, ◌-◌, ◌%◌, ◌<◌}
-use Rattle.twins.proofs.State.{State, moved, begun, turned, finished, turn_few, later_few}
-use Rattle.twins.specs.Parts.{part_at}
-use borrow.Author.Rules.{rules}
+use Rattle.twins.proofs.State.{moved, begun, turned, finished, turn_few, later_few}
 use lib.ListN.{length-replicate, get_or, get_or-replicate}
 use mathlib.Core.Path.{refl}
 use native.Mathlib.Omega.{arith}

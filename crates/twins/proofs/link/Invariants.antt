@@ -1,11 +1,6 @@
 -- `twins::link` meets its contract. The loop's invariant is `State`: what the arrays hold when the parts from i on are done.
-use Prim.Native.Nat.{ℕ, ◌+◌, ◌-◌, ◌%◌, ◌<◌}
-use Rattle.twins.proofs.State.{State, moved, begun, turned, finished, turn_few, later_few}
+use Rattle.twins.proofs.State.{State}
 use Rattle.twins.specs.Parts.{part_at}
-use borrow.Author.Rules.{rules}
-use lib.ListN.{length-replicate, get_or, get_or-replicate}
-use mathlib.Core.Path.{refl}
-use native.Mathlib.Omega.{arith}
 use Rattle.twins.proofs.link.Given as goal
 
 abbrev pub invariant-loop-i : goal.invariant-loop-i

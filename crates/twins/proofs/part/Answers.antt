@@ -1,6 +1,5 @@
 -- `twins::part` meets its contract. Assumes nothing.
 use Rattle.twins.proofs.Ends.{part_within}
-use borrow.Author.Rules.{rules}
 use native.Mathlib.Omega.{arith}
 use Rattle.twins.proofs.part.Goals as goal
 

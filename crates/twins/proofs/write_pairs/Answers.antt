@@ -1,8 +1,5 @@
-use Prim.Native.Nat.{◌≤◌, ◌-◌}
 use Rattle.twins.proofs.Links.{nexts_of}
-use Rattle.twins.proofs.Run.{Listed, listed_first, listed_more, listed_fits, listed_same, room_after, all_written}
-use Rattle.twins.specs.Parts.{part_at}
-use borrow.Author.Rules.{rules}
+use Rattle.twins.proofs.Run.{listed_first, listed_more, listed_fits, listed_same, room_after, all_written}
 use native.Mathlib.Omega.{arith}
 use Rattle.twins.proofs.write_pairs.Goals as goal
 

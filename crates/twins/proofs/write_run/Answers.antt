@@ -1,7 +1,4 @@
-use Prim.Native.Nat.{◌-◌}
-use Rattle.twins.proofs.Run.{Written, run_first, run_fits, run_same, run_more, run_end}
-use Rattle.twins.specs.Parts.{part_at}
-use borrow.Author.Rules.{rules}
+use Rattle.twins.proofs.Run.{run_first, run_fits, run_same, run_more, run_end}
 use lib.ListN.{length-set}
 use native.Mathlib.Omega.{arith}
 use Rattle.twins.proofs.write_run.Goals as goal

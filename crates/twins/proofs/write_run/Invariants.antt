@@ -1,10 +1,7 @@
 -- `twins::write_run` meets its contract. The loop's invariant is `Written`: what is written, and which parts are left.
 use Prim.Native.Nat.{◌-◌}
-use Rattle.twins.proofs.Run.{Written, run_first, run_fits, run_same, run_more, run_end}
+use Rattle.twins.proofs.Run.{Written}
 use Rattle.twins.specs.Parts.{part_at}
-use borrow.Author.Rules.{rules}
-use lib.ListN.{length-set}
-use native.Mathlib.Omega.{arith}
 use Rattle.twins.proofs.write_run.Given as goal
 
 abbrev pub invariant-loop-j : goal.invariant-loop-j

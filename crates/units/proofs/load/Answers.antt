@@ -1,6 +1,5 @@
 -- `units::load` meets its contract: each arm by the law of its plan. Assumes nothing.
 use Rattle.units.proofs.UnitAt.{loads_nothing, loads_payload, loads_hex, loads_base64, number_on, loads_number, loads_boolean}
-use borrow.Author.Rules.{rules}
 use Rattle.units.proofs.load.Goals as goal
 
 pub render-requires : goal.render-requires

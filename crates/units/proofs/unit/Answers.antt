@@ -1,9 +1,5 @@
 -- `units::unit` meets its contract: each arm by the law of its plan. Assumes nothing.
-use Prim.Native.Nat.{◌+◌, ◌*◌, ◌<◌}
 use Rattle.units.proofs.UnitAt.{short_base64, unit_on, none_inside, payload_inside, payload_unit, hex_inside, base64_inside, number_inside, number_unit, boolean_inside, boolean_unit}
-use borrow.Author.Rules.{rules}
-use lib.ListN.{length}
-use mathlib.Core.Path.{◌≡◌}
 use native.Mathlib.Omega.{arith}
 use Rattle.units.proofs.unit.Goals as goal
 

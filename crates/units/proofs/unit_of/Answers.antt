@@ -1,5 +1,4 @@
 -- `units::unit_of` meets its contract. Assumes nothing.
-use borrow.Author.Rules.{rules}
 use Rattle.units.proofs.unit_of.Goals as goal
 
 pub returns : goal.returns

@@ -1,6 +1,5 @@
 -- `units::units` meets its contract: each arm by the law of its plan. Assumes nothing.
 use Rattle.units.proofs.UnitAt.{units_nothing, units_payload, units_number, units_boolean, units_hex, units_base64, short_hex, short_base64}
-use borrow.Author.Rules.{rules}
 use native.Mathlib.Omega.{arith}
 use Rattle.units.proofs.units.Goals as goal
 

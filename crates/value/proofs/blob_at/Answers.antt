@@ -1,7 +1,6 @@
 -- `value::blob_at` meets its contract. Assumes nothing.
 use Rattle.number.proofs.Within.{is_within}
 use Rattle.value.proofs.Fields.{blob_on}
-use borrow.Author.Rules.{rules}
 use lib.ListN.{length}
 use mathlib.Core.Path.{◌∙◌}
 use native.Mathlib.Omega.{arith}

@@ -2,7 +2,6 @@
 use Prim.Native.Nat.{◌+◌}
 use Rattle.value.proofs.Fields.{lies_halved}
 use Rattle.value.specs.Fields.{extent_at, text_payload}
-use borrow.Author.Rules.{rules}
 use lib.ListN.{length}
 use mathlib.Core.Path.{◌∙◌, ap}
 use Rattle.value.proofs.extent_at.Goals as goal

@@ -1,6 +1,5 @@
 -- `value::needed_at` meets its contract. Assumes nothing.
 use Rattle.value.proofs.Fields.{needed_there, needed_short}
-use borrow.Author.Rules.{rules}
 use native.Mathlib.Omega.{arith}
 use Rattle.value.proofs.needed_at.Goals as goal
 

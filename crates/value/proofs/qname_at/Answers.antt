@@ -1,6 +1,5 @@
 -- `value::qname_at` meets its contract. Assumes nothing.
 use Rattle.value.proofs.Fields.{qname_on}
-use borrow.Author.Rules.{rules}
 use Rattle.value.proofs.qname_at.Goals as goal
 
 pub returns-in-Refused : goal.returns-in-Refused

@@ -1,6 +1,5 @@
 -- `value::read` meets its contract: the extent, then the rules. Assumes nothing.
 use Rattle.value.proofs.Fields.{here_inside, field_on, obeyed, broken}
-use borrow.Author.Rules.{rules}
 use native.Mathlib.Omega.{arith}
 use Rattle.value.proofs.read.Goals as goal
 

@@ -1,7 +1,6 @@
 -- `value::text_at` meets its contract: the units are compared with half of what is left, so nothing is doubled before it is tested. Assumes nothing.
 use Rattle.number.proofs.Within.{is_within}
 use Rattle.value.proofs.Fields.{text_there, text_short, text_on}
-use borrow.Author.Rules.{rules}
 use lib.ListN.{length}
 use mathlib.Core.Path.{◌∙◌}
 use native.Mathlib.Omega.{arith}

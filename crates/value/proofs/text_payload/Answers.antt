@@ -2,7 +2,6 @@
 use Rattle.value.specs.Bounds.{Halved}
 use Rattle.value.specs.Fields.{text_payload}
 use Rattle.value.specs.declared.Text.{Text}
-use borrow.Author.Rules.{rules}
 use mathlib.Core.Path.{sym, ap, subst}
 use native.Mathlib.Omega.{arith}
 use Rattle.value.proofs.text_payload.Goals as goal

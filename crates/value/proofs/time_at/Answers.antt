@@ -1,6 +1,5 @@
 -- `value::time_at` meets its contract: the precision is judged once read, then the bytes are needed. Assumes nothing.
 use Rattle.value.proofs.Fields.{time_short, time_refused, time_there}
-use borrow.Author.Rules.{rules}
 use Rattle.value.proofs.time_at.Goals as goal
 
 pub returns-then-doc-place : goal.returns-then-doc-place

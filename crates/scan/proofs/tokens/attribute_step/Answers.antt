@@ -1,6 +1,5 @@
 -- `scan::tokens::attribute_step` meets its contract. Assumes nothing.
 use Rattle.scan.proofs.Steps.{attribute_on}
-use borrow.Author.Rules.{rules}
 use mathlib.Core.Path.{◌∙◌}
 use Rattle.scan.proofs.tokens.attribute_step.Goals as goal
 

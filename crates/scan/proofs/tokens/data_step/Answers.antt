@@ -1,7 +1,6 @@
 -- `scan::tokens::data_step` meets its contract. Assumes nothing.
 use Rattle.scan.proofs.Steps.{data_on}
 use Rattle.value.proofs.Fields.{is_lies}
-use borrow.Author.Rules.{rules}
 use lib.ListN.{length}
 use mathlib.Core.Path.{◌∙◌}
 use native.Mathlib.Omega.{arith}

@@ -1,6 +1,5 @@
 -- `scan::tokens::element_step` meets its contract: 8 before the number is read. Assumes nothing.
 use Rattle.scan.proofs.Steps.{open_on, open_deep}
-use borrow.Author.Rules.{rules}
 use mathlib.Core.Path.{◌∙◌}
 use Rattle.scan.proofs.tokens.element_step.Goals as goal
 

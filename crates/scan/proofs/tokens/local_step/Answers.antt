@@ -1,6 +1,5 @@
 -- `scan::tokens::local_step` meets its contract. Assumes nothing.
 use Rattle.scan.proofs.Steps.{local_on, qname_row_fact, qname_full}
-use borrow.Author.Rules.{rules}
 use mathlib.Core.Path.{◌∙◌}
 use Rattle.scan.proofs.tokens.local_step.Goals as goal
 

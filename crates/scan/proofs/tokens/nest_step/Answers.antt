@@ -1,6 +1,5 @@
 -- `scan::tokens::nest_step` meets its contract: 8 before the header is read. Assumes nothing.
 use Rattle.scan.proofs.Steps.{nest_on, nest_deep}
-use borrow.Author.Rules.{rules}
 use mathlib.Core.Path.{◌∙◌}
 use Rattle.scan.proofs.tokens.nest_step.Goals as goal
 

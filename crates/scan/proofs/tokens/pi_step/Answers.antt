@@ -1,6 +1,5 @@
 -- `scan::tokens::pi_step` meets its contract. Assumes nothing.
 use Rattle.scan.proofs.Steps.{target_on}
-use borrow.Author.Rules.{rules}
 use mathlib.Core.Path.{◌∙◌}
 use Rattle.scan.proofs.tokens.pi_step.Goals as goal
 

@@ -1,6 +1,5 @@
 -- `scan::tokens::prefix_step` meets its contract. Assumes nothing.
 use Rattle.scan.proofs.Steps.{prefix_on}
-use borrow.Author.Rules.{rules}
 use mathlib.Core.Path.{◌∙◌}
 use Rattle.scan.proofs.tokens.prefix_step.Goals as goal
 

@@ -1,6 +1,5 @@
 -- `scan::tokens::qname_step` meets its contract. Assumes nothing.
 use Rattle.scan.proofs.Steps.{uri_on}
-use borrow.Author.Rules.{rules}
 use mathlib.Core.Path.{◌∙◌}
 use Rattle.scan.proofs.tokens.qname_step.Goals as goal
 

@@ -1,6 +1,5 @@
 -- `scan::tokens::reference_step` meets its contract. Assumes nothing.
 use Rattle.scan.proofs.Steps.{reference_zero, reference_over, reference_known}
-use borrow.Author.Rules.{rules}
 use mathlib.Core.Path.{◌∙◌}
 use Rattle.scan.proofs.tokens.reference_step.Goals as goal
 

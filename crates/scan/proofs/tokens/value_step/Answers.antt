@@ -3,7 +3,6 @@ use Rattle.scan.proofs.Steps.{value_on}
 use Rattle.token.specs.declared.Shape.{Shape}
 use Rattle.value.proofs.Fields.{payload_inside}
 use Rattle.value.specs.Fields.{field_at}
-use borrow.Author.Rules.{rules}
 use lib.ListN.{length}
 use mathlib.Core.Path.{◌∙◌, ap}
 use native.Mathlib.Omega.{arith}
