@@ -38,6 +38,7 @@ fn is_leap(year: u32) -> bool
 }
 
 // The day of the year, from 0 on, as if February had 30 days.
+#[tactic(auto, using(sequences::proofs::Tests::tests))]
 fn even_out(is_leap: bool, day: u32) -> u32
     requires { day < 366 }
     ensures { (result ≡ evened is_leap day) × (result ≤ day + 2) }

@@ -109,6 +109,7 @@ fn decimal_at(doc: &[u8], at: usize) -> Field
 }
 
 // A time with `more` bytes after it; `at` is the token's place.
+#[tactic(auto, using(crate::proofs::Fields::time_short, crate::proofs::Fields::time_refused, crate::proofs::Fields::time_there))]
 fn time_at(doc: &[u8], at: usize, more: usize) -> Field
     requires { (at < length doc.now) × (more ≤ 5) }
     ensures { result ≡ time_field doc.now at more }

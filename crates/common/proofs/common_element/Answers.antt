@@ -11,4 +11,4 @@ overflow_cast-number c = omega (arith, c.type_inv.doc (c.args.v.at + 1))
 pub returns : goal.returns
 returns c =
     let p = c.requires in
-    begins p.0 p.1 c.if-v-ge-OPEN_ELEMENTS.false (omega arith) refl c.if-number-ge128.false c.if-number-eq0.false c.if-v-number.false
+    begins p.0 p.1 c.if-v-ge-OPEN_ELEMENTS.false (omega arith) refl (omega arith) c.if-number-eq0.false c.if-v-number.false
