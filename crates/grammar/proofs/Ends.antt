@@ -80,8 +80,8 @@ limited doc room {d} {version} {u} x l a b f =
     }
 
 -- with none: no element and at most one nested document is ever counted
-abbrev pub none_open : ℕ → List Scope → ℕ
-none_open e os = 0
+abbrev pub nothing_open : ℕ → List Scope → ℕ
+nothing_open e os = 0
 
 abbrev pub some_nested : List Scope → ℕ
 some_nested [] = 0
@@ -92,14 +92,14 @@ some_few [] = omega arith
 some_few (o ∷ os) = omega arith
 
 pub unlimited : (doc : List ℕ) (room : Room) {d : Depth} {version : ℕ} {u : Point} → Document doc d version before_header u → u.at ≡ length doc
-    → Fits room (state_of u mode.Content 0 []) → Reaches none_open some_nested doc room version u
+    → Fits room (state_of u mode.Content 0 []) → Reaches nothing_open some_nested doc room version u
 unlimited doc room {u = u} x l f =
-    let r = reads none_open some_nested (λ d e os. Unit) (λ d n e os h. tt) (λ d n e os h. tt) (λ d e os h. (omega arith, tt)) (λ d o os h. (some_few os, tt))
+    let r = reads nothing_open some_nested (λ d e os. Unit) (λ d n e os h. tt) (λ d n e os h. tt) (λ d e os h. (omega arith, tt)) (λ d o os h. (some_few os, tt))
     (λ o os. omega arith) doc room x in
     let w = r.from [] tt in
     record {
       last = w.last;
       header = r.header;
       path = w.reach.steps (record { names = f.names; qnames = f.qnames; events = f.events });
-      stop = end_step_fact none_open some_nested doc room refl u w.last w.good l;
+      stop = end_step_fact nothing_open some_nested doc room refl u w.last w.good l;
     }

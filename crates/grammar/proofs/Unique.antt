@@ -9,15 +9,15 @@ use Rattle.scan.specs.declared.Room.{Room}
 use Rattle.machine.specs.Machine.{started}
 use Rattle.grammar.specs.Grammar.{Point, rows_at, before_header, Depth, Document, rows_in}
 use Rattle.grammar.proofs.Steps.{state_of, Path}
-use Rattle.grammar.proofs.Ends.{same_end, Reaches, none_open, some_nested, unlimited}
+use Rattle.grammar.proofs.Ends.{same_end, Reaches, nothing_open, some_nested, unlimited}
 
 -- two walks of one document end alike
-same_rows : (doc : List ℕ) (room : Room) {v w : ℕ} {s t : Point} → Reaches none_open some_nested doc room v s → Reaches none_open some_nested doc room w t
+same_rows : (doc : List ℕ) (room : Room) {v w : ℕ} {s t : Point} → Reaches nothing_open some_nested doc room v s → Reaches nothing_open some_nested doc room w t
     → (v ≡ w) × (rows_at s ≡ rows_at t)
 same_rows doc room {v} {w} {s} {t} a b =
     let e : v ≡ w = sym a.header.version_is.is ∙ b.header.version_is.is in
-    let p = subst (λ (k : ℕ). Path none_open some_nested doc room (started k 5) (state_of s a.last 0 [])) e a.path in
-    let q : state_of s a.last 0 [] ≡ state_of t b.last 0 [] = same_end none_open some_nested doc room p b.path a.stop b.stop in
+    let p = subst (λ (k : ℕ). Path nothing_open some_nested doc room (started k 5) (state_of s a.last 0 [])) e a.path in
+    let q : state_of s a.last 0 [] ≡ state_of t b.last 0 [] = same_end nothing_open some_nested doc room p b.path a.stop b.stop in
     (e, ap rows_in q)
 
 -- demand 2: whatever the limits, two derivations of one document have the same version and the same rows

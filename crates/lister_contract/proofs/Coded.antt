@@ -26,7 +26,7 @@ use Rattle.plan.specs.Text.{text_of}
 use Rattle.classes.specs.Classes.{texts_of}
 use Rattle.classes.proofs.Classes as classes
 use Rattle.classes.proofs.Classes.{number_empty, number_some, same_class, name_known, name_text_at, length_texts}
-use Rattle.meaning.specs.Meaning.{Symbol, unit, opening, ending, attribute, closing, value, qname, OpenAttribute, none_open_fact, counted, skipped, declares, closed, unless, shown_as, named_symbols, plain_symbols, symbols_of, attribute_after, depth_after, inside, begins, onto, new_if, pieces, rest, meanings, same_meaning, pairs_of}
+use Rattle.meaning.specs.Meaning.{Symbol, unit, opening, ending, attribute, closing, value, qname, OpenAttribute, none_open, counted, skipped, declares, closed, unless, shown_as, named_symbols, plain_symbols, symbols_of, attribute_after, depth_after, inside, begins, onto, new_if, pieces, rest, meanings, same_meaning, pairs_of}
 use Rattle.meaning.specs.Codes.{codes_of, Classes, Coded}
 use Rattle.meaning.proofs.Codes.{codes_pairs}
 use Rattle.render.specs.Render.{Renderable}
@@ -162,12 +162,12 @@ module _ (K : List ℕ → Type 0) where
   one s h = first h none
 
   closed_coded : (q : OpenAttribute) → Every (Coded K) (closed q)
-  closed_coded none_open_fact = none
+  closed_coded none_open = none
   closed_coded counted = one closing tt
   closed_coded skipped = none
 
   unless_coded : (q : OpenAttribute) {l : List Symbol} → Every (Coded K) l → Every (Coded K) (unless q l)
-  unless_coded none_open_fact h = h
+  unless_coded none_open h = h
   unless_coded counted h = h
   unless_coded skipped h = none
 
@@ -216,7 +216,7 @@ module _ (K : List ℕ → Type 0) where
 
   meanings_coded : (es : List Event) → Every (CodedEvent K) es → Every (Every (Coded K)) (meanings es)
   unfolding meanings
-  meanings_coded es h = rest_coded (pieces_coded 0 none_open_fact es h)
+  meanings_coded es h = rest_coded (pieces_coded 0 none_open es h)
 
 -- ---- the meanings of the rows of a document
 

@@ -7,7 +7,7 @@ use mathlib.Core.List.{List, [], ◌∷◌, ◌++◌, map, append_assoc}
 use Rattle.sequences.specs.Lists.{units_of}
 use Rattle.machine.specs.Machine.{Event, texted, valued}
 use Rattle.plan.specs.Text.{text_of}
-use Rattle.meaning.specs.Meaning.{Symbol, unit, OpenAttribute, none_open_fact, counted, skipped, unless, symbols_of, attribute_after, begins, inside, depth_after, onto, new_if, rest, pieces, meanings, ValueRun, no_value, one_value, ChunkRun, no_chunk, one_chunk, Recut, no_event, same_event, values, chunks}
+use Rattle.meaning.specs.Meaning.{Symbol, unit, OpenAttribute, none_open, counted, skipped, unless, symbols_of, attribute_after, begins, inside, depth_after, onto, new_if, rest, pieces, meanings, ValueRun, no_value, one_value, ChunkRun, no_chunk, one_chunk, Recut, no_event, same_event, values, chunks}
 
 map_append : (us vs : List ℕ) → map unit (us ++ vs) ≡ map unit us ++ map unit vs
 map_append [] vs = refl
@@ -42,13 +42,13 @@ value_adds (suc depth) q token payload units es e = rw e
 joins : (depth : ℕ) (q : OpenAttribute) (us vs : List ℕ)
     → added depth (unless q (map unit us)) ++ added depth (unless q (map unit vs)) ≡ added depth (unless q (map unit (us ++ vs)))
 joins zero q us vs = refl
-joins (suc depth) none_open_fact us vs = sym (map_append us vs)
+joins (suc depth) none_open us vs = sym (map_append us vs)
 joins (suc depth) counted us vs = sym (map_append us vs)
 joins (suc depth) skipped us vs = refl
 
 nothing : (depth : ℕ) (q : OpenAttribute) → added depth (unless q []) ≡ []
 nothing zero q = refl
-nothing (suc depth) none_open_fact = refl
+nothing (suc depth) none_open = refl
 nothing (suc depth) counted = refl
 nothing (suc depth) skipped = refl
 
@@ -71,12 +71,12 @@ chunk_adds (suc depth) q text es = refl
 -- a run of CDATA chunks adds its joined text, also where an attribute is open
 chunks_add : (depth : ℕ) (q : OpenAttribute) {us : List Event} {joined : List ℕ} (es : List Event) → ChunkRun us joined
     → pieces depth q (us ++ es) ≡ onto (added depth (map unit joined)) (pieces depth q es)
-chunks_add depth q es no_chunk = rw (nothing depth none_open_fact) (sym (pieces_kept depth q es))
+chunks_add depth q es no_chunk = rw (nothing depth none_open) (sym (pieces_kept depth q es))
 chunks_add depth q es (one_chunk {text} {es = us} {joined} r) =
     chunk_adds depth q text (us ++ es)
     ∙ ap (onto (added depth (map unit (units_of text)))) (chunks_add depth q es r)
     ∙ onto_onto (added depth (map unit (units_of text))) (added depth (map unit joined)) (pieces depth q es)
-    ∙ ap (λ (l : List Symbol). onto l (pieces depth q es)) (joins depth none_open_fact (units_of text) joined)
+    ∙ ap (λ (l : List Symbol). onto l (pieces depth q es)) (joins depth none_open (units_of text) joined)
 
 event_adds : (depth : ℕ) (q : OpenAttribute) (e : Event) (es fs : List Event)
     → pieces (depth_after depth e) (attribute_after q e) es ≡ pieces (depth_after depth e) (attribute_after q e) fs → pieces depth q (e ∷ es) ≡ pieces depth q (e ∷ fs)
@@ -94,4 +94,4 @@ recut_pieces depth q (chunks {us} {vs} {es} {fs} {joined} a b r) =
 -- texts cut otherwise give the same records with the same meanings
 pub recut_meanings : {es fs : List Event} → Recut es fs → meanings es ≡ meanings fs
 unfolding meanings
-recut_meanings r = ap rest (recut_pieces 0 none_open_fact r)
+recut_meanings r = ap rest (recut_pieces 0 none_open r)

@@ -66,7 +66,7 @@ pub data Symbol : Type 0 where
 
 -- whether an attribute is open, and whether it counts
 pub data OpenAttribute : Type 0 where
-  none_open_fact : OpenAttribute
+  none_open : OpenAttribute
   counted : OpenAttribute
   skipped : OpenAttribute
 
@@ -81,13 +81,13 @@ declares uri prefix local =
 
 -- the mark that closes an open attribute
 abbrev pub closed : OpenAttribute → List Symbol
-closed none_open_fact = []
+closed none_open = []
 closed counted = closing ∷ []
 closed skipped = []
 
 -- values of a skipped attribute do not count
 abbrev pub unless : OpenAttribute → List Symbol → List Symbol
-unless none_open_fact l = l
+unless none_open l = l
 unless counted l = l
 unless skipped l = []
 
@@ -123,7 +123,7 @@ attribute_after q (pi target t) = q
 attribute_after q (qnamed token uri prefix local) = cond (eqb token ATTRIBUTE_TOKEN) (cond (declares uri prefix local) skipped counted) q
 attribute_after q (valued token payload) = q
 attribute_after q (nest version) = q
-attribute_after q (plain token) = cond (eqb token ENDATTRIBUTES_TOKEN) none_open_fact q
+attribute_after q (plain token) = cond (eqb token ENDATTRIBUTES_TOKEN) none_open q
 
 -- an element opens
 abbrev pub opens : Event → Bool
@@ -179,7 +179,7 @@ rest (p ∷ ps) = ps
 
 -- the meanings of the records, in the order of their ELEMENT tokens; what stands before the first record is no record
 unfoldable pub meanings : List Event → List (List Symbol)
-meanings es = rest (pieces 0 none_open_fact es)
+meanings es = rest (pieces 0 none_open es)
 
 -- ---- equal meanings
 

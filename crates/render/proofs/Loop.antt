@@ -12,7 +12,7 @@ use Rattle.sequences.specs.Lists.{Bytes}
 use Rattle.machine.specs.Machine.{EventRow, event, Event, event_of}
 use Rattle.machine.specs.Tables.{name_rows_in, qname_rows_in, event_rows_in, events_in}
 use Rattle.machine.proofs.Tables.{event_rows_from, length_event_rows}
-use Rattle.meaning.specs.Meaning.{Symbol, OpenAttribute, none_open_fact, symbols_of, attribute_after, depth_after, inside, begins, onto, new_if, pieces, rest, meanings}
+use Rattle.meaning.specs.Meaning.{Symbol, OpenAttribute, none_open, symbols_of, attribute_after, depth_after, inside, begins, onto, new_if, pieces, rest, meanings}
 use Rattle.meaning.specs.Codes.{codes_of}
 use Rattle.meaning.proofs.Codes.{codes_append}
 use Rattle.hash.specs.Hash.{hash_from, hash_of, seed}
@@ -149,7 +149,7 @@ pub record RowsDone (doc names qnames events : List ℕ) (rows qrows count : ℕ
   pub last : ℕ
   pub last_in : last ≤ length doc
   pub whole : done ++ onto cur (pieces progress.depth (attribute_of progress.attribute) (map (event_of doc (name_rows_in rows names) (qname_rows_in qrows qnames)) (drop k (event_rows_in count events))))
-      ≡ onto [] (pieces 0 none_open_fact (map (event_of doc (name_rows_in rows names) (qname_rows_in qrows qnames)) (event_rows_in count events)))
+      ≡ onto [] (pieces 0 none_open (map (event_of doc (name_rows_in rows names) (qname_rows_in qrows qnames)) (event_rows_in count events)))
   pub syms_are : NumbersPut syms₀ 0 (flat (map (codes_of (class_in doc names rows)) done) ++ codes_of (class_in doc names rows) cur) syms progress.at
   pub starts_are : NumbersPut starts₀ 0 (sums 0 (map (codes_of (class_in doc names rows)) done)) starts progress.records
   pub hashes_are : NumbersPut hashes₀ 0 (map hash_of (map (codes_of (class_in doc names rows)) done)) hashes progress.records
@@ -228,7 +228,7 @@ module _ {doc names qnames events classes : List ℕ} {rows qrows count : ℕ} (
           let dn : depth_by progress.depth row.token ≤ progress.depth + 1 = depth_few progress.depth row.token in
           let pc : pieces progress.depth (attribute_of progress.attribute) (ev ∷ es) ≡ new_if s (onto x (pieces r.depth (attribute_of r.attribute) es))
           = pieces_step progress.depth (attribute_of progress.attribute) ev es ∙ rw (begins_is d M said progress.depth, depth_is d M said progress.depth, said.after progress.attribute, y.depth_is, y.attribute_is) in
-          let wh : w.done ++ onto w.cur (pieces progress.depth (attribute_of progress.attribute) (ev ∷ es)) ≡ onto [] (pieces 0 none_open_fact (map (event_of doc (name_rows_in rows names) (qname_rows_in qrows qnames)) (event_rows_in count events)))
+          let wh : w.done ++ onto w.cur (pieces progress.depth (attribute_of progress.attribute) (ev ∷ es)) ≡ onto [] (pieces 0 none_open (map (event_of doc (name_rows_in rows names) (qname_rows_in qrows qnames)) (event_rows_in count events)))
           = rw (event_rows_from count events k h) at w.whole in
           record {
             done = cond s (w.done ++ (w.cur ∷ [])) w.done;
@@ -278,10 +278,10 @@ module _ {doc names qnames events classes : List ℕ} {rows qrows count : ℕ} (
         let ps : List (List Symbol) = w.done ++ (w.cur ∷ []) in
         let cs : List (List ℕ) = map (codes_of cls) ps in
         let e0 : drop k (event_rows_in count events) ≡ [] = drop_of_length-le (event_rows_in count events) (let l : length (event_rows_in count events) ≤ k = omega (arith, length_event_rows count events) in l) in
-        let e1 : w.done ++ onto w.cur (pieces progress.depth (attribute_of progress.attribute) []) ≡ onto [] (pieces 0 none_open_fact evs) = rw e0 at w.whole in
-        let e2 : w.done ++ ((w.cur ++ []) ∷ []) ≡ onto [] (pieces 0 none_open_fact evs) = rw (pieces_end progress.depth (attribute_of progress.attribute)) at e1 in
-        let e3 : ps ≡ onto [] (pieces 0 none_open_fact evs) = ap (λ (l : List Symbol). w.done ++ (l ∷ [])) (sym (append-nil w.cur)) ∙ e2 in
-        let e4 : rest ps ≡ rest (pieces 0 none_open_fact evs) = ap rest e3 ∙ rest_onto (pieces 0 none_open_fact evs) in
+        let e1 : w.done ++ onto w.cur (pieces progress.depth (attribute_of progress.attribute) []) ≡ onto [] (pieces 0 none_open evs) = rw e0 at w.whole in
+        let e2 : w.done ++ ((w.cur ++ []) ∷ []) ≡ onto [] (pieces 0 none_open evs) = rw (pieces_end progress.depth (attribute_of progress.attribute)) at e1 in
+        let e3 : ps ≡ onto [] (pieces 0 none_open evs) = ap (λ (l : List Symbol). w.done ++ (l ∷ [])) (sym (append-nil w.cur)) ∙ e2 in
+        let e4 : rest ps ≡ rest (pieces 0 none_open evs) = ap rest e3 ∙ rest_onto (pieces 0 none_open evs) in
         let c1 : map (codes_of cls) w.done ++ (codes_of cls w.cur ∷ []) ≡ cs = sym (map_snoc cls w.done w.cur) in
         let a1 : NumbersPut starts₀ 0 (sums 0 (map (codes_of cls) w.done) ++ (progress.at ∷ [])) (set starts n progress.at) (n + 1) = put_put w.starts_are (put_set starts n progress.at) in
         let a2 : sums 0 (map (codes_of cls) w.done) ++ (progress.at ∷ []) ≡ sums 0 cs

@@ -22,7 +22,7 @@ use Rattle.machine.specs.Facts.{text_tokens, qname_tokens, bare_tokens, EventFit
 use Rattle.machine.specs.Tables.{name_rows_in, qname_rows_in}
 use Rattle.machine.proofs.Facts.{every_one_of}
 use Rattle.plan.specs.Text.{text_of}
-use Rattle.meaning.specs.Meaning.{Symbol, OpenAttribute, none_open_fact, counted, skipped, unit, attribute, qname, declares, closed, unless, shown_as, named_symbols, plain_symbols, symbols_of, attribute_after, opens, closes}
+use Rattle.meaning.specs.Meaning.{Symbol, OpenAttribute, none_open, counted, skipped, unit, attribute, qname, declares, closed, unless, shown_as, named_symbols, plain_symbols, symbols_of, attribute_after, opens, closes}
 use Rattle.meaning.specs.Codes.{mark, both, codes_of}
 use Rattle.meaning.proofs.Codes.{codes_append}
 use Rattle.render.specs.Render.{Renderable}
@@ -56,7 +56,7 @@ module _ (cls : List ℕ → ℕ) where
   unfolding codes_of
   codes_closed q = go (eqb q 1) (eqb q 2)
     where
-      go : (s t : Bool) → codes_of cls (closed (cond s counted (cond t skipped none_open_fact))) ≡ cond s (mark 4 0 ∷ []) []
+      go : (s t : Bool) → codes_of cls (closed (cond s counted (cond t skipped none_open))) ≡ cond s (mark 4 0 ∷ []) []
       go true t = refl
       go false true = refl
       go false false = refl
@@ -65,7 +65,7 @@ module _ (cls : List ℕ → ℕ) where
   unfolding codes_of
   codes_unless q l = go (eqb q 1) (eqb q 2) refl refl
     where
-      go : (s t : Bool) → eqb q 1 ≡ s → eqb q 2 ≡ t → codes_of cls (unless (cond s counted (cond t skipped none_open_fact)) l) ≡ cond t [] (codes_of cls l)
+      go : (s t : Bool) → eqb q 1 ≡ s → eqb q 2 ≡ t → codes_of cls (unless (cond s counted (cond t skipped none_open)) l) ≡ cond t [] (codes_of cls l)
       go true true e f = absurd (let a = eqb-true q 1 e in let b = eqb-true q 2 f in let z : ⊥ = omega arith in z)
       go true false e f = refl
       go false true e f = refl

@@ -4,14 +4,14 @@ use Rattle.sequences.specs.Lists.{part, units_of}
 use Rattle.token.specs.Tokens.{shape_of, XSD_QNAME, ELEMENT_TOKEN, ATTRIBUTE_TOKEN, ENDATTRIBUTES_TOKEN, ENDELEMENT_TOKEN, CDATA_TOKEN, qname_rows, longest}
 use Rattle.rules.specs.Rules.{lawful}
 use Rattle.plan.specs.Text.{text_of}
-use Rattle.meaning.specs.Meaning.{OpenAttribute, none_open_fact, counted, skipped}
+use Rattle.meaning.specs.Meaning.{OpenAttribute, none_open, counted, skipped}
 use Rattle.meaning.specs.Codes.{mark, attribute_kind, qname_kind, end_kind, closing_kind}
 use Rattle.symbols.specs.Values.{value_codes}
 use Rattle.marks.specs.Marks.{opening_in, declared_in}
 
 -- the open attribute as a number: none, one that counts, one that does not
-abbrev pub none_open : ℕ
-none_open = 0
+abbrev pub nothing_open : ℕ
+nothing_open = 0
 
 abbrev pub counted_open : ℕ
 counted_open = 1
@@ -20,7 +20,7 @@ abbrev pub skipped_open : ℕ
 skipped_open = 2
 
 abbrev pub attribute_of : ℕ → OpenAttribute
-attribute_of q = cond (eqb q counted_open) counted (cond (eqb q skipped_open) skipped none_open_fact)
+attribute_of q = cond (eqb q counted_open) counted (cond (eqb q skipped_open) skipped none_open)
 
 -- the codes of values are those from 01 to 9F (004, section 2), so no class is looked up
 abbrev pub values_end : ℕ
@@ -70,7 +70,7 @@ abbrev pub depth_by : ℕ → ℕ → ℕ
 depth_by depth token = cond (eqb token ELEMENT_TOKEN) (depth + 1) (cond (eqb token ENDELEMENT_TOKEN) (depth - 1) depth)
 
 unfoldable pub attribute_by : List ℕ → ℕ → ℕ → ℕ → ℕ
-attribute_by marks q token a = cond (eqb token ATTRIBUTE_TOKEN) (cond (declared_in marks a) skipped_open counted_open) (cond (eqb token ENDATTRIBUTES_TOKEN) none_open q)
+attribute_by marks q token a = cond (eqb token ATTRIBUTE_TOKEN) (cond (declared_in marks a) skipped_open counted_open) (cond (eqb token ENDATTRIBUTES_TOKEN) nothing_open q)
 
 -- the most numbers that a row adds: two marks, or the units of a text
 abbrev pub room_by : ℕ → ℕ → ℕ

@@ -5,7 +5,7 @@ ghost use Rattle.std.specs.Prelude.{◌≡◌, cond, [], ◌∷◌, ◌++◌, �
 ghost use Rattle.meaning.specs.Codes.{mark, attribute_kind, end_kind};
 ghost use Rattle.symbols.specs.Store.{PutHashed};
 ghost use Rattle.marks.specs.Marks.{opening_in, declared_in, declaring};
-ghost use Rattle.render_elements.specs.Codes.{none_open, counted_open, skipped_open, close_by, unless_out};
+ghost use Rattle.render_elements.specs.Codes.{nothing_open, counted_open, skipped_open, close_by, unless_out};
 ghost use Rattle.render_elements.specs.Effects.{cursor_of, moved_to, attributed, Begun, RowPut};
 ghost use Rattle.token.specs.Tokens.{qname_rows, event_rows};
 ghost use Rattle.twins.specs.Search.{part_bounds};
@@ -174,7 +174,7 @@ pub fn put_attribute(
 // ENDATTRIBUTES.
 pub fn end_attributes(syms: &mut [u32], p: Progress) -> Progress
     requires { p.at < length syms.old }
-    ensures { RowPut (unless_out p.depth (close_by p.attribute)) none_open p.depth syms.old p syms.new result }
+    ensures { RowPut (unless_out p.depth (close_by p.attribute)) nothing_open p.depth syms.old p syms.new result }
 {
     if p.depth == 0 {
         return with_attribute(p, NONE_OPEN);

@@ -280,9 +280,9 @@ pub record Held (size : ℕ) (room : Room) (t : Tables) (v : View) : Type 0 wher
   pub few_names : room.names ≤ name_rows
   pub few_qnames : room.qnames ≤ qname_rows
   pub few_events : room.events ≤ event_rows
-  pub names_in_fact : v.names ≤ room.names
-  pub qnames_in_fact : v.qnames ≤ room.qnames
-  pub events_in_fact : v.events ≤ room.events
+  pub names_held : v.names ≤ room.names
+  pub qnames_held : v.qnames ≤ room.qnames
+  pub events_held : v.events ≤ room.events
   pub known_in : v.base + v.known ≤ v.names
   pub qknown_in : v.qbase + v.qknown ≤ v.qnames
   pub shallow : v.depth ≤ nested_documents
