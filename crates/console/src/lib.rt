@@ -13,7 +13,8 @@ use std::{io, str};
 const WORDS: usize = 256;
 
 // Reads until the buffer is full or the reader has no more; how many bytes stand at the buffer's front. A read that fails ends
-// it with the error, so that it is not taken for the end. An error leaves any bytes in the buffer.
+// it with the error, so that it is not taken for the end; one that a signal interrupts is tried again. An error leaves any
+// bytes in the buffer.
 pub fn read_full<R: Read>(reader: &mut R, buffer: &mut [u8]) -> io::Result<usize>
     ensures within { ReadsAtMost result buffer.new }
     ensures kept { length buffer.new ≡ length buffer.old }
