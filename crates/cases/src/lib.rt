@@ -208,8 +208,8 @@ pub fn text_buffer() -> [u8; TEXT_ROOM]
 }
 
 // Reads the files that the program's arguments name, one behind the other; how many bytes they have. Where they do not leave a byte
-// of the buffer free this is said, and none are given, as a part of the cases would look like the whole. An error leaves any bytes in
-// the buffer.
+// of the buffer free this is said, and none are given, as a part of the cases would look like the whole. An error leaves any
+// bytes in the buffer.
 pub fn load_all<R: Files + Env + Print + Eprint>(rt: &R, text: &mut [u8]) -> io::Result<usize>
     ensures within { ReadsAtMost result text.new }
     ensures kept { length text.new ≡ length text.old }
