@@ -5,7 +5,7 @@
 
 ghost use Rattle.std.specs.Prelude.{◌≡◌, ◌≤◌, length};
 
-use libc::STDOUT_FILENO;
+use std::io;
 use text::Shown;
 
 // The longest document, and one byte more.
@@ -23,21 +23,21 @@ const XSD_BINHEX: u8 = 0x84;
 const PAIRS: usize = 16384;
 
 // Writes a job's answer in one line.
-fn write_answer(job: &[u8], number: u32, place: usize) {
-    cases::say(job, number as usize);
-    cases::say(b" at ", place);
-    io::write_all(STDOUT_FILENO, b"\n");
+fn write_answer(rt: &impl Print, job: &[u8], number: u32, place: usize) -> io::Result<()> {
+    cases::say(rt, job, number as usize)?;
+    cases::say(rt, b" at ", place)?;
+    rt.write_all(b"\n")
 }
 
-fn read(doc: &[u8]) {
+fn read(rt: &impl Print, doc: &[u8]) -> io::Result<()> {
     let mut names = [0u32; cases::NAMES];
     let mut qnames = [0u32; cases::QNAMES];
     let mut events = [0u32; cases::EVENTS];
     let a: machine::Answer = reader::read(doc, &mut names, &mut qnames, &mut events);
-    write_answer(b"read ", a.number, a.place);
+    write_answer(rt, b"read ", a.number, a.place)
 }
 
-fn rewrite(doc: &[u8]) {
+fn rewrite(rt: &impl Print, doc: &[u8]) -> io::Result<()> {
     let mut names = [0u32; cases::NAMES];
     let mut qnames = [0u32; cases::QNAMES];
     let mut events = [0u32; cases::EVENTS];
@@ -49,10 +49,10 @@ fn rewrite(doc: &[u8]) {
         &mut events,
         &mut out,
     );
-    write_answer(b"rewrite ", a.number, a.place);
+    write_answer(rt, b"rewrite ", a.number, a.place)
 }
 
-fn list(doc: &[u8]) {
+fn list(rt: &impl Print, doc: &[u8]) -> io::Result<()> {
     let mut names = [0u32; cases::NAMES];
     let mut qnames = [0u32; cases::QNAMES];
     let mut events = [0u32; cases::EVENTS];
@@ -64,29 +64,29 @@ fn list(doc: &[u8]) {
         &mut events,
         &mut pairs,
     );
-    write_answer(b"list ", a.number, a.place);
+    write_answer(rt, b"list ", a.number, a.place)
 }
 
 // The payload of a blob, in hexadecimal.
-fn show(payload: &[u8]) {
+fn show(rt: &impl Print, payload: &[u8]) -> io::Result<()> {
     let mut buffer = [0u8; TEXT];
     match text::show(XSD_BINHEX, payload, &mut buffer) {
-        Shown::Own(n) => write_answer(b"show ", token::ACCEPTED, n),
-        Shown::Made(n) => write_answer(b"show ", token::ACCEPTED, n),
-        Shown::Short(n) => write_answer(b"show ", token::NO_ROOM, n),
-        Shown::NoText => write_answer(b"show ", token::NO_TEXT, 0),
+        Shown::Own(n) => write_answer(rt, b"show ", token::ACCEPTED, n),
+        Shown::Made(n) => write_answer(rt, b"show ", token::ACCEPTED, n),
+        Shown::Short(n) => write_answer(rt, b"show ", token::NO_ROOM, n),
+        Shown::NoText => write_answer(rt, b"show ", token::NO_TEXT, 0),
     }
 }
 
 // The jobs on the first `size` bytes.
-fn run(bytes: &[u8], size: usize)
+fn run(rt: &impl Print, bytes: &[u8], size: usize) -> io::Result<()>
     requires { size ≤ length bytes.now }
 {
     let front = &bytes[..size];
-    read(front);
-    rewrite(front);
-    list(front);
-    show(front);
+    read(rt, front)?;
+    rewrite(rt, front)?;
+    list(rt, front)?;
+    show(rt, front)
 }
 
 // A header, and a comment of 32,763 units whose length takes four bytes: the units that follow are zeros, up to byte 65,536. The
@@ -108,8 +108,8 @@ fn document() -> [u8; ROOM]
     doc
 }
 
-fn main() {
+fn main(rt: HostRuntime) -> io::Result<()> {
     let doc = document();
-    run(&doc, token::LONGEST);
-    run(&doc, ROOM);
+    run(&rt, &doc, token::LONGEST)?;
+    run(&rt, &doc, ROOM)
 }

@@ -3,7 +3,12 @@
 #![tactic(auto)]
 
 ghost use Rattle.std.specs.Prelude.{◌≡◌, ◌+◌, ◌≤◌, ◌<◌, length};
-ghost use Rattle.io.specs.Counts.{IsPrefixLen};
+ghost use Rattle.std.specs.Io.{ReadsAtMost};
+
+use std::env::FillError;
+use std::io::ErrorKind;
+use std::rt::{Env, Files};
+use std::{fs, io, str};
 
 // The numbers in the three tables of reading at their full size.
 pub const NAMES: usize = token::NAME_TABLE;
@@ -17,6 +22,9 @@ pub const DOCUMENT: usize = token::LONGEST + 1;
 
 // The text of a program's files of cases, and one byte more, so that a longer text is noticed.
 pub const TEXT_ROOM: usize = 2097153;
+
+// The bytes of the longest argument.
+const ARGUMENT: usize = 4096;
 
 // The end of the line that begins at a place: the next line feed, or the text's end.
 pub fn line_end(text: &[u8], from: usize) -> usize
@@ -117,9 +125,9 @@ pub fn decimal(word: &[u8]) -> usize
 }
 
 // Writes a word and a number.
-pub fn say(word: &[u8], number: usize) {
-    io::write_all(libc::STDOUT_FILENO, word);
-    io::print_decimal(libc::STDOUT_FILENO, number as u64);
+pub fn say(rt: &impl Print, word: &[u8], number: usize) -> io::Result<()> {
+    rt.write_all(word)?;
+    rt.print(number)
 }
 
 // Whether a byte from `from` on is not the mark that stood there.
@@ -146,29 +154,50 @@ pub fn changed(numbers: &[u32], from: usize, mark: u32) -> bool {
     false
 }
 
+// Whether the program has an argument at a place.
+fn has_argument(rt: &impl Env, i: usize) -> bool {
+    let mut word = [0u8; ARGUMENT];
+    match rt.arg(i, &mut word) {
+        Ok(_) => true,
+        Err(FillError::TooLong) => true,
+        Err(FillError::NotPresent) => false,
+    }
+}
+
 // The number that an argument of the program spells.
-pub fn argument(i: usize) -> usize
+pub fn argument(rt: &impl Env, i: usize) -> usize
     ensures { result ≤ 99999999 }
 {
-    let mut word = io::buffer();
-    let length = os::arg(i, &mut word);
+    let mut word = [0u8; ARGUMENT];
+    let length = rt.arg(i, &mut word).unwrap_or(0);
     decimal(&word[..length])
 }
 
-// Reads the file that an argument of the program names; how many bytes it has, as far as the buffer holds them.
-pub fn load(i: usize, buffer: &mut [u8]) -> usize
-    ensures { IsPrefixLen result buffer.new }
+// Reads a file; how many bytes it has, as far as the buffer holds them.
+fn read_file<R: Files>(rt: &R, path: &str, buffer: &mut [u8]) -> io::Result<usize>
+    ensures within { ReadsAtMost result buffer.new }
+    ensures kept { length buffer.new ≡ length buffer.old }
 {
-    let mut path = io::buffer();
-    let length = os::arg(i, &mut path);
-    let file = os::open_read(&path[..length]);
-    if file < 0 {
-        os::fail(&path[..length]);
-        return 0;
+    let mut file = fs::open(rt, path)?;
+    console::read_full(&mut file, buffer)
+}
+
+// Reads the file that an argument of the program names; how many bytes it has, as far as the buffer holds them. What cannot be
+// opened or read is said on standard error. An error leaves any bytes in the buffer.
+pub fn load<R: Files + Env + Eprint>(rt: &R, i: usize, buffer: &mut [u8]) -> io::Result<usize>
+    ensures within { ReadsAtMost result buffer.new }
+    ensures kept { length buffer.new ≡ length buffer.old }
+{
+    let mut word = [0u8; ARGUMENT];
+    let length = rt.arg(i, &mut word).unwrap_or(0);
+    let Ok(path) = str::from_utf8(&word[..length]) else {
+        let error = io::Error::new(ErrorKind::InvalidInput, "not UTF-8");
+        return Err(console::failed(rt, "a file's name", error));
+    };
+    match read_file(rt, path, buffer) {
+        Ok(size) => Ok(size),
+        Err(e) => Err(console::failed(rt, path, e)),
     }
-    let size = io::read_full(file, buffer);
-    libc::close(file);
-    size
 }
 
 // Zeros for the text of the files. The `ensures` gives only the length, so that no proof computes with a list so long.
@@ -179,23 +208,22 @@ pub fn text_buffer() -> [u8; TEXT_ROOM]
 }
 
 // Reads the files that the program's arguments name, one behind the other; how many bytes they have. Where they do not leave a byte
-// of the buffer free this is said, and none are given, as a part of the cases would look like the whole.
-pub fn load_all(text: &mut [u8]) -> usize
-    ensures { IsPrefixLen result text.new }
+// of the buffer free this is said, and none are given, as a part of the cases would look like the whole. An error leaves any
+// bytes in the buffer.
+pub fn load_all<R: Files + Env + Print + Eprint>(rt: &R, text: &mut [u8]) -> io::Result<usize>
+    ensures within { ReadsAtMost result text.new }
+    ensures kept { length text.new ≡ length text.old }
 {
-    let count = os::arg_count();
     let mut size = 0;
-    let mut i = 1;
-    while i < count {
-        size += load(i, &mut text[size..]);
-        i += 1;
+    for i in 1..usize::MAX {
+        if !has_argument(rt, i) {
+            break;
+        }
+        size += load(rt, i, &mut text[size..])?;
     }
     if size < text.len() {
-        return size;
+        return Ok(size);
     }
-    io::write_all(
-        libc::STDOUT_FILENO,
-        b"the files of cases have over 2,097,152 bytes\n",
-    );
-    0
+    rt.write_all(b"the files of cases have over 2,097,152 bytes\n")?;
+    Ok(0)
 }

@@ -2,23 +2,81 @@
 // must not be taken for a whole one, nor half a list for the list.
 #![tactic(auto)]
 
-// Whether standard input was read to its end: so many bytes are in a buffer with so much room. A read that fails ends the
-// reading as the end of the input does; one read more tells them apart.
-pub fn input_whole(size: usize, room: usize) -> bool {
-    if size == room {
-        return true;
+ghost use Rattle.std.specs.Prelude.{◌≡◌, ◌<◌, ◌≤◌, length, take, IfOk};
+ghost use Rattle.std.specs.Io.{ReadsAtMost};
+ghost use Rattle.std.specs.Io.KnownBytes.{Consumes, IsAtEnd};
+
+use std::io::{ErrorKind, Read, Write};
+use std::{io, str};
+
+// The bytes of an error's text.
+const WORDS: usize = 256;
+
+// Reads until the buffer is full or the reader has no more; how many bytes stand at the buffer's front. A read that fails ends
+// it with the error, so that it is not taken for the end; one that a signal interrupts is tried again. An error leaves any
+// bytes in the buffer.
+pub fn read_full<R: Read>(reader: &mut R, buffer: &mut [u8]) -> io::Result<usize>
+    ensures within { ReadsAtMost result buffer.new }
+    ensures kept { length buffer.new ≡ length buffer.old }
+    ensures bytes { IfOk result (λ n. Consumes (R.remaining reader.old) (R.remaining reader.new) (take n buffer.new)) }
+    ensures end { IfOk result (λ n. n < length buffer.new → IsAtEnd (R.remaining reader.new)) }
+{
+    let mut size = 0;
+    for _ in 0..u64::MAX {
+        if buffer.len() <= size {
+            return Ok(size);
+        }
+        match reader.read(&mut buffer[size..]) {
+            Ok(0) => return Ok(size),
+            Ok(count) => size += count,
+            Err(e) => {
+                if e.kind() != ErrorKind::Interrupted {
+                    return Err(e);
+                }
+            }
+        }
     }
-    let mut byte = [0u8; 1];
-    if libc::read(libc::STDIN_FILENO, &mut byte) == 0 {
-        return true;
+    Err(io::Error::from(ErrorKind::Interrupted))
+}
+
+// Writes an error's text to the front of a buffer; how many bytes it has there.
+fn put_words(error: &io::Error, text: &mut [u8]) -> usize
+    ensures { result ≤ length text.new }
+{
+    let room = text.len();
+    let mut rest = &mut text[..];
+    let _ = write!(rest, "{error}");
+    room.saturating_sub(rest.len())
+}
+
+// Says on standard error what failed, with the system's words for it and not their number, and gives the error back.
+pub fn failed(rt: &impl Eprint, what: &str, error: io::Error) -> io::Error
+    ensures { result ≡ error }
+{
+    let mut text = [0u8; WORDS];
+    let size = put_words(&error, &mut text);
+    let shown = str::from_utf8(&text[..size]).unwrap_or("");
+    let words = shown.split(" (os error ").next().unwrap_or(shown);
+    let _ = eprintln!(rt; "{what}: {words}");
+    error
+}
+
+// Reads standard input to its end, or until the buffer is full; how many bytes stand at the buffer's front. An error leaves any
+// bytes in the buffer.
+pub fn input_whole(rt: &(impl Input + Eprint), input: &mut [u8]) -> io::Result<usize>
+    ensures within { ReadsAtMost result input.new }
+    ensures kept { length input.new ≡ length input.old }
+{
+    match read_full(&mut rt.reader(), input) {
+        Ok(size) => Ok(size),
+        Err(e) => Err(failed(rt, "standard input", e)),
     }
-    os::fail(b"standard input");
-    false
 }
 
 // Writes a text to standard output.
-pub fn write_output(text: &[u8]) {
-    if !io::write_all(libc::STDOUT_FILENO, text) {
-        os::fail(b"standard output");
+pub fn write_output(rt: &(impl Print + Eprint), text: &[u8]) -> io::Result<()> {
+    match rt.write_all(text) {
+        Ok(()) => Ok(()),
+        Err(e) => Err(failed(rt, "standard output", e)),
     }
 }

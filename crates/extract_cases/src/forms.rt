@@ -3,8 +3,8 @@
 ghost use Rattle.std.specs.Prelude.{◌≡◌, ◌≤◌, length};
 ghost use Rattle.token.specs.Tokens.{longest};
 
-use libc::STDOUT_FILENO;
 use rewriter_contract::Answer;
+use std::io;
 
 // What stands in the output before.
 const MARK: u8 = 165;
@@ -15,38 +15,39 @@ const FORM_ROOM: usize = 65536;
 const DIGITS_ROOM: usize = 131072;
 
 // Writes the answer in one line.
-fn write_answer(a: Answer) {
+fn write_answer(rt: &impl Print, a: Answer) -> io::Result<()> {
     if a.number == 0 {
-        cases::say(b"accepted ", a.place);
+        cases::say(rt, b"accepted ", a.place)?;
     } else {
-        cases::say(b"refused ", a.number as usize);
-        cases::say(b" at ", a.place);
+        cases::say(rt, b"refused ", a.number as usize)?;
+        cases::say(rt, b" at ", a.place)?;
     }
-    cases::say(b" length ", a.length);
-    io::write_all(STDOUT_FILENO, b"\n");
+    cases::say(rt, b" length ", a.length)?;
+    rt.write_all(b"\n")
 }
 
 // Writes bytes in hexadecimal, and a line feed.
-fn write_digits(bytes: &[u8])
+fn write_digits(rt: &impl Print, bytes: &[u8]) -> io::Result<()>
     requires { length bytes.now ≤ longest }
 {
     let mut text = [0u8; DIGITS_ROOM];
     let from = print_lines::put_hex(&mut text, DIGITS_ROOM, bytes);
-    io::write_all(STDOUT_FILENO, &text[from..]);
-    io::write_all(STDOUT_FILENO, b"\n");
+    rt.write_all(&text[from..])?;
+    rt.write_all(b"\n")
 }
 
 // Writes the form, and whether the bytes after it are no longer marks.
-fn write_form(out: &[u8], size: usize)
+fn write_form(rt: &impl Print, out: &[u8], size: usize) -> io::Result<()>
     requires { length out.now ≤ longest }
 {
     if out.len() < size {
-        return;
+        return Ok(());
     }
-    write_digits(&out[..size]);
+    write_digits(rt, &out[..size])?;
     if cases::changed_bytes(out, size, MARK) {
-        io::write_all(STDOUT_FILENO, b"changed\n");
+        rt.write_all(b"changed\n")?;
     }
+    Ok(())
 }
 
 // Rewrites into the front of an output: so many bytes of it are lent.
@@ -61,14 +62,14 @@ fn rewrite_front(doc: &[u8], out: &mut [u8], room: usize) -> Answer
 }
 
 // Rewrites into an output of marks.
-fn rewrite_into(doc: &[u8], room: usize) -> Answer
+fn rewrite_into(rt: &impl Print, doc: &[u8], room: usize) -> io::Result<Answer>
     requires { room ≤ longest }
 {
     let mut out = [MARK; FORM_ROOM];
     let a = rewrite_front(doc, &mut out, room);
-    write_answer(a);
-    write_form(&out, a.length);
-    a
+    write_answer(rt, a)?;
+    write_form(rt, &out, a.length)?;
+    Ok(a)
 }
 
 // The room that is one byte too small for a form.
@@ -85,9 +86,10 @@ fn too_small(length: usize) -> usize
 }
 
 // Rewrites a document into an output with room for every form, and where it has a form, into one that is too small.
-pub fn run(doc: &[u8]) {
-    let a = rewrite_into(doc, FORM_ROOM);
+pub fn run(rt: &impl Print, doc: &[u8]) -> io::Result<()> {
+    let a = rewrite_into(rt, doc, FORM_ROOM)?;
     if 0 < a.length {
-        rewrite_into(doc, too_small(a.length));
+        rewrite_into(rt, doc, too_small(a.length))?;
     }
+    Ok(())
 }

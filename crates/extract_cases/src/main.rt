@@ -6,49 +6,49 @@
 mod forms;
 mod pairs;
 
-use libc::STDOUT_FILENO;
+use std::io;
 
 // Writes what the reading program writes.
-fn write_reading(doc: &[u8]) {
+fn write_reading(rt: &impl Print, doc: &[u8]) -> io::Result<()> {
     let mut text = print_reading::blank();
     let from = print_reading::print(doc, &mut text);
-    io::write_all(STDOUT_FILENO, &text[from..]);
+    rt.write_all(&text[from..])
 }
 
 // The three jobs on one document.
-fn run_jobs(doc: &[u8]) {
-    write_reading(doc);
-    forms::run(doc);
-    pairs::run(doc);
+fn run_jobs(rt: &impl Print, doc: &[u8]) -> io::Result<()> {
+    write_reading(rt, doc)?;
+    forms::run(rt, doc)?;
+    pairs::run(rt, doc)
 }
 
 // The case of one line. Digits that do not all become bytes are no document, and are said to be none.
-fn run_case(line: &[u8]) {
+fn run_case(rt: &impl Print, line: &[u8]) -> io::Result<()> {
     let end = cases::word_end(line, 0);
     let from = cases::after_space(line, end);
     let mut doc = [0u8; cases::DOCUMENT];
     let size = cases::bytes(&line[from..], &mut doc);
-    io::write_all(STDOUT_FILENO, &line[..end]);
-    io::write_all(STDOUT_FILENO, b"\n");
+    rt.write_all(&line[..end])?;
+    rt.write_all(b"\n")?;
     if line.len() - from != 2 * size {
-        io::write_all(STDOUT_FILENO, b"not hexadecimal, or over 65,537 bytes\n");
-        return;
+        return rt.write_all(b"not hexadecimal, or over 65,537 bytes\n");
     }
-    run_jobs(&doc[..size]);
+    run_jobs(rt, &doc[..size])
 }
 
 // The cases of a text, line by line.
-fn run_lines(text: &[u8]) {
+fn run_lines(rt: &impl Print, text: &[u8]) -> io::Result<()> {
     let mut at = 0;
     while at < text.len() {
         let end = cases::line_end(text, at);
-        run_case(&text[at..end]);
+        run_case(rt, &text[at..end])?;
         at = end + 1;
     }
+    Ok(())
 }
 
-fn main() {
+fn main(rt: HostRuntime) -> io::Result<()> {
     let mut text = cases::text_buffer();
-    let size = cases::load_all(&mut text);
-    run_lines(&text[..size]);
+    let size = cases::load_all(&rt, &mut text)?;
+    run_lines(&rt, &text[..size])
 }

@@ -2,8 +2,8 @@
 // last pair. `changed` where a number past the pairs written is not what stood there.
 ghost use Rattle.std.specs.Prelude.{◌≡◌, ◌≤◌, length};
 
-use libc::STDOUT_FILENO;
 use lister_contract::Answer;
+use std::io;
 
 // What stands in the list before.
 const MARK: u32 = 2779096485;
@@ -14,29 +14,30 @@ const PAIRS: usize = 8192;
 const LIST_ROOM: usize = 16384;
 
 // Writes the answer in one line, and a refusal in a line before it.
-fn write_answer(a: Answer) {
+fn write_answer(rt: &impl Print, a: Answer) -> io::Result<()> {
     if a.number != 0 {
-        cases::say(b"refused ", a.number as usize);
-        cases::say(b" at ", a.place);
-        io::write_all(STDOUT_FILENO, b"\n");
+        cases::say(rt, b"refused ", a.number as usize)?;
+        cases::say(rt, b" at ", a.place)?;
+        rt.write_all(b"\n")?;
     }
-    cases::say(b"records ", a.records);
-    cases::say(b" pairs ", a.pairs);
-    io::write_all(STDOUT_FILENO, b"\n");
+    cases::say(rt, b"records ", a.records)?;
+    cases::say(rt, b" pairs ", a.pairs)?;
+    rt.write_all(b"\n")
 }
 
 // Writes the first pairs of a list, each in one line.
-fn write_pairs(list: &[u32], count: usize) {
+fn write_pairs(rt: &impl Print, list: &[u32], count: usize) -> io::Result<()> {
     let mut i = 0;
     while i < count {
         if list.len() / 2 <= i {
-            return;
+            return Ok(());
         }
-        cases::say(b"", slices::cell(list, 2 * i));
-        cases::say(b" ", slices::cell(list, 2 * i + 1));
-        io::write_all(STDOUT_FILENO, b"\n");
+        cases::say(rt, b"", slices::cell(list, 2 * i))?;
+        cases::say(rt, b" ", slices::cell(list, 2 * i + 1))?;
+        rt.write_all(b"\n")?;
         i += 1;
     }
+    Ok(())
 }
 
 // The numbers that so many pairs take, as far as the list has room.
@@ -50,15 +51,16 @@ fn twice(count: usize) -> usize
 }
 
 // Writes the pairs of an accepted list, and whether the numbers after them are no longer marks.
-fn write_list(list: &[u32], a: Answer) {
+fn write_list(rt: &impl Print, list: &[u32], a: Answer) -> io::Result<()> {
     let mut count = 0;
     if a.number == 0 {
         count = a.pairs;
     }
-    write_pairs(list, count);
+    write_pairs(rt, list, count)?;
     if cases::changed(list, twice(count), MARK) {
-        io::write_all(STDOUT_FILENO, b"changed\n");
+        rt.write_all(b"changed\n")?;
     }
+    Ok(())
 }
 
 // Lists into the front of a list: so many numbers of it are lent.
@@ -73,14 +75,14 @@ fn list_front(doc: &[u8], list: &mut [u32], room: usize) -> Answer
 }
 
 // Lists into marks.
-fn list_into(doc: &[u8], room: usize) -> Answer
+fn list_into(rt: &impl Print, doc: &[u8], room: usize) -> io::Result<Answer>
     requires { room ≤ 16384 }
 {
     let mut list = [MARK; LIST_ROOM];
     let a = list_front(doc, &mut list, room);
-    write_answer(a);
-    write_list(&list, a);
-    a
+    write_answer(rt, a)?;
+    write_list(rt, &list, a)?;
+    Ok(a)
 }
 
 // The room that is one number too small.
@@ -95,9 +97,10 @@ fn too_small(pairs: usize) -> usize
 }
 
 // Lists a document into a list of full size, and where it has pairs, into one that is too small.
-pub fn run(doc: &[u8]) {
-    let a = list_into(doc, LIST_ROOM);
+pub fn run(rt: &impl Print, doc: &[u8]) -> io::Result<()> {
+    let a = list_into(rt, doc, LIST_ROOM)?;
     if a.pairs != 0 {
-        list_into(doc, too_small(a.pairs));
+        list_into(rt, doc, too_small(a.pairs))?;
     }
+    Ok(())
 }

@@ -2,8 +2,8 @@
 // line `refused C at N` to standard error. One byte more than the limit is read, so that a document over it can be answered.
 #![tactic(auto)]
 
-use libc::STDERR_FILENO;
 use rewriter_contract::Answer;
+use std::io;
 
 // The bytes that are read: one more than the limit.
 const INPUT: usize = token::LONGEST + 1;
@@ -11,7 +11,7 @@ const INPUT: usize = token::LONGEST + 1;
 // The bytes of the longest line.
 const LINE: usize = 43;
 
-fn write_refusal(a: Answer) {
+fn write_refusal(to: &impl Print, a: Answer) -> io::Result<()> {
     let mut text = [0u8; LINE];
     let from = print_lines::put_line(
         &mut text,
@@ -21,30 +21,27 @@ fn write_refusal(a: Answer) {
         b" at ",
         a.place,
     );
-    io::write_all(STDERR_FILENO, &text[from..]);
+    to.write_all(&text[from..])
 }
 
 // The form is the front of the output.
-fn write_front(out: &[u8], size: usize) {
+fn write_front(rt: &(impl Print + Eprint), out: &[u8], size: usize) -> io::Result<()> {
     if size <= out.len() {
-        console::write_output(&out[..size]);
+        console::write_output(rt, &out[..size])?;
     }
+    Ok(())
 }
 
-fn main() {
+fn main(rt: HostRuntime) -> io::Result<()> {
     let mut doc = [0u8; INPUT];
-    let size = io::read_full(libc::STDIN_FILENO, &mut doc);
-    if !console::input_whole(size, INPUT) {
-        return;
-    }
+    let size = console::input_whole(&rt, &mut doc)?;
     let mut names = [0u32; token::NAME_TABLE];
     let mut qnames = [0u32; token::QNAME_TABLE];
     let mut events = [0u32; token::EVENT_TABLE];
     let mut out = [0u8; token::LONGEST];
     let answer = rewriter::rewrite(&doc[..size], &mut names, &mut qnames, &mut events, &mut out);
     if answer.number != 0 {
-        write_refusal(answer);
-        return;
+        return write_refusal(&rt.stderr(), answer);
     }
-    write_front(&out, answer.length);
+    write_front(&rt, &out, answer.length)
 }

@@ -5,15 +5,19 @@
 
 ghost use Rattle.std.specs.Prelude.{◌+◌, ◌≤◌, ◌<◌, length};
 
-use libc::STDOUT_FILENO;
 use machine::Answer;
+use std::io;
+
+// The bytes that are read.
+const INPUT: usize = 65536;
 
 const MARK: u32 = 2779096485;
 
-fn report_change(table: &[u32], from: usize) {
+fn report_change(rt: &impl Print, table: &[u32], from: usize) -> io::Result<()> {
     if cases::changed(table, from, MARK) {
-        io::write_all(STDOUT_FILENO, b"changed\n");
+        rt.write_all(b"changed\n")?;
     }
+    Ok(())
 }
 
 // Reads into the front of the tables: so many numbers of each are lent.
@@ -32,7 +36,13 @@ fn read_front(
 }
 
 // Writes the answer, and as many rows as it tells of and the tables hold.
-fn write_report(names: &[u32], qnames: &[u32], events: &[u32], a: Answer) {
+fn write_report(
+    rt: &impl Print,
+    names: &[u32],
+    qnames: &[u32],
+    events: &[u32],
+    a: Answer,
+) -> io::Result<()> {
     let mut text = [0u8; print_reading::PRINTED];
     let end = print_rows::put_rows(
         &mut text,
@@ -53,11 +63,11 @@ fn write_report(names: &[u32], qnames: &[u32], events: &[u32], a: Answer) {
         ),
     );
     let from = print_reading::put_answer(&mut text, end, a);
-    io::write_all(STDOUT_FILENO, &text[from..]);
+    rt.write_all(&text[from..])
 }
 
 // Reads into the front of three tables of marks, and writes what came out.
-fn read_into(doc: &[u8], n: usize, q: usize, e: usize) {
+fn read_into(rt: &impl Print, doc: &[u8], n: usize, q: usize, e: usize) -> io::Result<()> {
     let mut names = [MARK; 64];
     let mut qnames = [MARK; 64];
     let mut events = [MARK; 512];
@@ -70,22 +80,25 @@ fn read_into(doc: &[u8], n: usize, q: usize, e: usize) {
         slices::least(q, 64),
         slices::least(e, 512),
     );
-    write_report(&names, &qnames, &events, a);
+    write_report(rt, &names, &qnames, &events, a)?;
     report_change(
+        rt,
         &names,
         token::NAME_WIDTH * slices::least(a.names, token::NAME_ROWS),
-    );
+    )?;
     report_change(
+        rt,
         &qnames,
         token::QNAME_WIDTH * slices::least(a.qnames, token::QNAME_ROWS),
-    );
+    )?;
     report_change(
+        rt,
         &events,
         token::EVENT_WIDTH * slices::least(a.events, token::EVENT_ROWS),
-    );
+    )
 }
 
-fn case(line: &[u8]) {
+fn case(rt: &impl Print, line: &[u8]) -> io::Result<()> {
     let mut doc = [0u8; 4096];
     let a = cases::word_end(line, 0);
     let size = cases::bytes(&line[..a], &mut doc);
@@ -97,22 +110,23 @@ fn case(line: &[u8]) {
     let n = cases::decimal(&line[b..c]);
     let q = cases::decimal(&line[d..e]);
     let v = cases::decimal(&line[f..]);
-    io::write_all(STDOUT_FILENO, line);
-    io::write_all(STDOUT_FILENO, b"\n");
-    read_into(&doc[..size], n, q, v);
+    rt.write_all(line)?;
+    rt.write_all(b"\n")?;
+    read_into(rt, &doc[..size], n, q, v)
 }
 
-fn run(text: &[u8]) {
+fn run(rt: &impl Print, text: &[u8]) -> io::Result<()> {
     let mut at = 0;
     while at < text.len() {
         let end = cases::line_end(text, at);
-        case(&text[at..end]);
+        case(rt, &text[at..end])?;
         at = end + 1;
     }
+    Ok(())
 }
 
-fn main() {
-    let mut text = io::large_buffer();
-    let size = io::read_full(libc::STDIN_FILENO, &mut text);
-    run(&text[..size]);
+fn main(rt: HostRuntime) -> io::Result<()> {
+    let mut text = [0u8; INPUT];
+    let size = console::input_whole(&rt, &mut text)?;
+    run(&rt, &text[..size])
 }

@@ -3,7 +3,8 @@
 // inline what both call, and counts are up to 17 % higher: the script `count` puts the call of one job in `main`.
 #![tactic(auto)]
 
-use libc::STDOUT_FILENO;
+use std::io;
+use std::rt::{Env, Files};
 use text::Shown;
 
 // The places of the arguments.
@@ -128,57 +129,57 @@ fn repeat_value(value: &[u8], count: usize) -> u64 {
 }
 
 // Writes the sum in one line.
-fn write_sum(sum: u64) {
-    io::print_decimal(STDOUT_FILENO, sum);
-    io::write_all(STDOUT_FILENO, b"\n");
+fn write_sum(rt: &impl Print, sum: u64) -> io::Result<()> {
+    rt.print(sum)?;
+    rt.write_all(b"\n")
 }
 
 // Reads the file so many times.
-fn read() {
+fn read<R: Files + Env + Print + Eprint>(rt: &R) -> io::Result<()> {
     let mut doc = [0u8; cases::DOCUMENT];
-    let size = cases::load(FILE, &mut doc);
-    write_sum(repeat_read(&doc[..size], cases::argument(COUNT)));
+    let size = cases::load(rt, FILE, &mut doc)?;
+    write_sum(rt, repeat_read(&doc[..size], cases::argument(rt, COUNT)))
 }
 
 // Shows the value in the file so many times.
-fn show() {
+fn show<R: Files + Env + Print + Eprint>(rt: &R) -> io::Result<()> {
     let mut value = [0u8; cases::DOCUMENT];
-    let size = cases::load(FILE, &mut value);
-    write_sum(repeat_value(&value[..size], cases::argument(COUNT)));
+    let size = cases::load(rt, FILE, &mut value)?;
+    write_sum(rt, repeat_value(&value[..size], cases::argument(rt, COUNT)))
 }
 
 // Rewrites the file so many times.
-fn rewrite() {
+fn rewrite<R: Files + Env + Print + Eprint>(rt: &R) -> io::Result<()> {
     let mut doc = [0u8; cases::DOCUMENT];
-    let size = cases::load(FILE, &mut doc);
-    write_sum(repeat_rewrite(&doc[..size], cases::argument(COUNT)));
+    let size = cases::load(rt, FILE, &mut doc)?;
+    write_sum(rt, repeat_rewrite(&doc[..size], cases::argument(rt, COUNT)))
 }
 
 // Lists the file so many times.
-fn list() {
+fn list<R: Files + Env + Print + Eprint>(rt: &R) -> io::Result<()> {
     let mut doc = [0u8; cases::DOCUMENT];
-    let size = cases::load(FILE, &mut doc);
-    write_sum(repeat_list(&doc[..size], cases::argument(COUNT)));
+    let size = cases::load(rt, FILE, &mut doc)?;
+    write_sum(rt, repeat_list(&doc[..size], cases::argument(rt, COUNT)))
 }
 
 // The three jobs on a document in turn.
-fn all() {
-    read();
-    rewrite();
-    list();
+fn all<R: Files + Env + Print + Eprint>(rt: &R) -> io::Result<()> {
+    read(rt)?;
+    rewrite(rt)?;
+    list(rt)
 }
 
 // The job with a number; where none has it, the three on a document.
-fn run(job: usize) {
+fn run<R: Files + Env + Print + Eprint>(rt: &R, job: usize) -> io::Result<()> {
     match job {
-        READ => read(),
-        SHOW => show(),
-        REWRITE => rewrite(),
-        LIST => list(),
-        _ => all(),
+        READ => read(rt),
+        SHOW => show(rt),
+        REWRITE => rewrite(rt),
+        LIST => list(rt),
+        _ => all(rt),
     }
 }
 
-fn main() {
-    run(cases::argument(JOB));
+fn main(rt: HostRuntime) -> io::Result<()> {
+    run(&rt, cases::argument(&rt, JOB))
 }

@@ -4,6 +4,7 @@
 
 ghost use Rattle.std.specs.Prelude.{◌≤◌, ◌<◌};
 
+use std::io;
 use text::Shown;
 
 // The size of the buffer, and what stands in it before.
@@ -12,13 +13,13 @@ const ROOM: usize = 1100;
 const PATTERN: u8 = 165;
 
 // Writes bytes as they are.
-fn put(bytes: &[u8]) {
-    io::write_all(libc::STDOUT_FILENO, bytes);
+fn put(rt: &impl Print, bytes: &[u8]) -> io::Result<()> {
+    rt.write_all(bytes)
 }
 
 // Writes a number in decimal.
-fn put_number(n: usize) {
-    io::print_decimal(libc::STDOUT_FILENO, n as u64);
+fn put_number(rt: &impl Print, n: usize) -> io::Result<()> {
+    rt.print(n)
 }
 
 // The hexadecimal digit of a number below 16.
@@ -32,26 +33,27 @@ fn hex_digit(d: u8) -> u8
 }
 
 // Writes bytes in hexadecimal, or `-` for none.
-fn put_bytes(bytes: &[u8]) {
+fn put_bytes(rt: &impl Print, bytes: &[u8]) -> io::Result<()> {
     if bytes.len() == 0 {
-        put(b"-");
+        put(rt, b"-")?;
     }
     let mut pair = [0u8; 2];
     let mut i = 0;
     while i < bytes.len() {
         pair[0] = hex_digit(bytes[i] / 16);
         pair[1] = hex_digit(bytes[i] % 16);
-        put(&pair);
+        put(rt, &pair)?;
         i += 1;
     }
+    Ok(())
 }
 
 // Writes an answer number, and its place or count.
-fn put_answer(number: u32, count: usize) {
-    put_number(number as usize);
-    put(b" ");
-    put_number(count);
-    put(b" ");
+fn put_answer(rt: &impl Print, number: u32, count: usize) -> io::Result<()> {
+    put_number(rt, number as usize)?;
+    put(rt, b" ")?;
+    put_number(rt, count)?;
+    put(rt, b" ")
 }
 
 // How many bytes of the buffer an answer may have changed.
@@ -65,34 +67,40 @@ fn written(shown: Shown) -> usize {
 }
 
 // Writes what `show` answered, as a number and its place or count.
-fn put_shown(shown: Shown) {
+fn put_shown(rt: &impl Print, shown: Shown) -> io::Result<()> {
     match shown {
-        Shown::Own(n) => put_answer(token::ACCEPTED, n),
-        Shown::Made(n) => put_answer(token::ACCEPTED, n),
-        Shown::Short(n) => put_answer(token::NO_ROOM, n),
-        Shown::NoText => put_answer(token::NO_TEXT, 0),
+        Shown::Own(n) => put_answer(rt, token::ACCEPTED, n),
+        Shown::Made(n) => put_answer(rt, token::ACCEPTED, n),
+        Shown::Short(n) => put_answer(rt, token::NO_ROOM, n),
+        Shown::NoText => put_answer(rt, token::NO_TEXT, 0),
     }
 }
 
 // Writes where the text is.
-fn put_where(shown: Shown) {
+fn put_where(rt: &impl Print, shown: Shown) -> io::Result<()> {
     match shown {
-        Shown::Own(_) => put(b" payload"),
-        Shown::Made(_) => put(b" buffer"),
-        Shown::Short(_) => put(b" none"),
-        Shown::NoText => put(b" none"),
+        Shown::Own(_) => put(rt, b" payload"),
+        Shown::Made(_) => put(rt, b" buffer"),
+        Shown::Short(_) => put(rt, b" none"),
+        Shown::NoText => put(rt, b" none"),
     }
 }
 
 // Writes the second half of a line.
-fn put_result<'a>(payload: &'a [u8], buffer: &'a [u8], shown: Shown) {
-    put(b" -> ");
-    put_shown(shown);
-    put_bytes(text::part(payload, buffer, shown));
-    put_where(shown);
+fn put_result<'a>(
+    rt: &impl Print,
+    payload: &'a [u8],
+    buffer: &'a [u8],
+    shown: Shown,
+) -> io::Result<()> {
+    put(rt, b" -> ")?;
+    put_shown(rt, shown)?;
+    put_bytes(rt, text::part(payload, buffer, shown))?;
+    put_where(rt, shown)?;
     if cases::changed_bytes(buffer, written(shown), PATTERN) {
-        put(b" CHANGED");
+        put(rt, b" CHANGED")?;
     }
+    Ok(())
 }
 
 // A size that the buffer has room for.
@@ -106,13 +114,18 @@ fn room_for(size: usize) -> usize
 }
 
 // Shows a value, and writes the result.
-fn show_case<'a>(token: u8, payload: &'a [u8], buffer: &'a mut [u8]) {
+fn show_case<'a>(
+    rt: &impl Print,
+    token: u8,
+    payload: &'a [u8],
+    buffer: &'a mut [u8],
+) -> io::Result<()> {
     let shown = text::show(token, payload, buffer);
-    put_result(payload, buffer, shown);
+    put_result(rt, payload, buffer, shown)
 }
 
 // Runs the case of one line.
-fn run_case(line: &[u8]) {
+fn run_case(rt: &impl Print, line: &[u8]) -> io::Result<()> {
     let token_end = cases::word_end(line, 0);
     let payload_at = cases::after_space(line, token_end);
     let payload_end = cases::word_end(line, payload_at);
@@ -124,8 +137,8 @@ fn run_case(line: &[u8]) {
     let count = cases::bytes(&line[payload_at..payload_end], &mut payload);
     let size = room_for(cases::decimal(&line[size_at..size_end]));
     let mut buffer = [PATTERN; ROOM];
-    put(&line[..size_end]);
-    show_case(token[0], &payload[..count], &mut buffer[..size]);
+    put(rt, &line[..size_end])?;
+    show_case(rt, token[0], &payload[..count], &mut buffer[..size])
 }
 
 // Whether a line is a comment.
@@ -137,27 +150,28 @@ fn is_comment(line: &[u8]) -> bool {
 }
 
 // Writes a line again, with its own answer.
-fn run_line(line: &[u8]) {
+fn run_line(rt: &impl Print, line: &[u8]) -> io::Result<()> {
     if is_comment(line) {
-        put(line);
+        put(rt, line)?;
     } else {
-        run_case(line);
+        run_case(rt, line)?;
     }
-    put(b"\n");
+    put(rt, b"\n")
 }
 
 // Runs the cases of a text, line by line.
-fn run_lines(text: &[u8]) {
+fn run_lines(rt: &impl Print, text: &[u8]) -> io::Result<()> {
     let mut at = 0;
     while at < text.len() {
         let end = cases::line_end(text, at);
-        run_line(&text[at..end]);
+        run_line(rt, &text[at..end])?;
         at = end + 1;
     }
+    Ok(())
 }
 
-fn main() {
+fn main(rt: HostRuntime) -> io::Result<()> {
     let mut text = cases::text_buffer();
-    let size = cases::load_all(&mut text);
-    run_lines(&text[..size]);
+    let size = cases::load_all(&rt, &mut text)?;
+    run_lines(&rt, &text[..size])
 }

@@ -5,53 +5,57 @@
 ghost use Rattle.token.specs.Entries.{Listed};
 ghost use Rattle.std.specs.Prelude.{◌<◌, length};
 
-use libc::STDOUT_FILENO;
+use std::io;
 use value::Field;
 
-fn answer(table: &[u16; 256], doc: &[u8])
+// The bytes that are read.
+const INPUT: usize = 65536;
+
+fn answer(rt: &impl Print, table: &[u16; 256], doc: &[u8]) -> io::Result<()>
     requires { Listed table.now × (0 < length doc.now) }
 {
     match value::read(token::shape_at(table, doc[0]), doc, 0) {
         Field::Payload { place, size } => {
-            cases::say(b" -> payload at ", place);
-            cases::say(b" size ", size);
+            cases::say(rt, b" -> payload at ", place)?;
+            cases::say(rt, b" size ", size)
         }
         Field::Reference { number, next } => {
-            cases::say(b" -> qname ", number.0);
-            cases::say(b" next ", next);
+            cases::say(rt, b" -> qname ", number.0)?;
+            cases::say(rt, b" next ", next)
         }
         Field::Refused { number, place } => {
-            cases::say(b" -> refused ", number as usize);
-            cases::say(b" at ", place);
+            cases::say(rt, b" -> refused ", number as usize)?;
+            cases::say(rt, b" at ", place)
         }
     }
 }
 
-fn case(table: &[u16; 256], line: &[u8])
+fn case(rt: &impl Print, table: &[u16; 256], line: &[u8]) -> io::Result<()>
     requires { Listed table.now }
 {
     let mut doc = [0u8; 4096];
     let size = cases::bytes(line, &mut doc);
-    io::write_all(STDOUT_FILENO, line);
+    rt.write_all(line)?;
     if 0 < size {
-        answer(table, &doc[..size]);
+        answer(rt, table, &doc[..size])?;
     }
-    io::write_all(STDOUT_FILENO, b"\n");
+    rt.write_all(b"\n")
 }
 
-fn run(table: &[u16; 256], text: &[u8])
+fn run(rt: &impl Print, table: &[u16; 256], text: &[u8]) -> io::Result<()>
     requires { Listed table.now }
 {
     let mut at = 0;
     while at < text.len() {
         let end = cases::line_end(text, at);
-        case(table, &text[at..end]);
+        case(rt, table, &text[at..end])?;
         at = end + 1;
     }
+    Ok(())
 }
 
-fn main() {
-    let mut text = io::large_buffer();
-    let size = io::read_full(libc::STDIN_FILENO, &mut text);
-    run(&token::table(), &text[..size]);
+fn main(rt: HostRuntime) -> io::Result<()> {
+    let mut text = [0u8; INPUT];
+    let size = console::input_whole(&rt, &mut text)?;
+    run(&rt, &token::table(), &text[..size])
 }

@@ -1,7 +1,5 @@
-use Prim.Native.Nat.{◌≤◌, ◌-◌}
 use borrow.Author.Rules.{rules}
-use lib.ListN.{length, length-set}
-use mathlib.Core.Path.{◌≡◌}
+use lib.ListN.{length-set}
 use Rattle.cases.proofs.bytes.Goals as goal
 
 pub loop-at-preserved : goal.loop-at-preserved

@@ -1,7 +1,6 @@
 -- `cases::bytes` meets its contract. Assumes nothing.
 use Prim.Native.Nat.{◌≤◌, ◌-◌}
-use borrow.Author.Rules.{rules}
-use lib.ListN.{length, length-set}
+use lib.ListN.{length}
 use mathlib.Core.Path.{◌≡◌}
 use Rattle.cases.proofs.bytes.Given as goal
 

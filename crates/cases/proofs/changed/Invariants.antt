@@ -1,6 +1,5 @@
 -- `cases::changed` is safe and ends. Assumes nothing.
 use Prim.Native.Nat.{◌-◌}
-use borrow.Author.Rules.{rules}
 use lib.ListN.{length}
 use Rattle.cases.proofs.changed.Given as goal
 

@@ -1,6 +1,5 @@
 -- `cases::changed_bytes` is safe and ends. Assumes nothing.
 use Prim.Native.Nat.{◌-◌}
-use borrow.Author.Rules.{rules}
 use lib.ListN.{length}
 use Rattle.cases.proofs.changed_bytes.Given as goal
 

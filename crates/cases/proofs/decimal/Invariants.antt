@@ -1,6 +1,5 @@
 -- `cases::decimal` meets its contract. Assumes nothing.
 use Prim.Native.Nat.{◌≤◌, ◌-◌}
-use borrow.Author.Rules.{rules}
 use lib.ListN.{length}
 use Rattle.cases.proofs.decimal.Given as goal
 

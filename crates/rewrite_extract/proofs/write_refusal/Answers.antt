@@ -6,10 +6,9 @@ use native.Mathlib.Omega.{arith}
 use Rattle.rewrite_extract.proofs.write_refusal.Goals as goal
 
 pub put_line-from-requires : goal.put_line-from-requires
-put_line-from-requires c =
+put_line-from-requires g c =
     let a = c.args.a in
-    let g = c.struct_known-1.ensures in
-    let x = short_digits a.number (omega (arith, g)) in
-    let y = long_digits a.place (omega (arith, g)) in
+    let x = short_digits a.number (search rules) in
+    let y = long_digits a.place (search rules) in
     let l = line_length refused_word a.number at_word a.place in
     (omega (arith, l, x, y), omega arith)

@@ -1,5 +1,4 @@
 -- `room_cases::read_front` is safe. Assumes nothing.
-use borrow.Author.Rules.{rules}
 use lib.ListN.{length-take}
 use native.Mathlib.Omega.{arith}
 use Rattle.room_cases.proofs.read_front.Goals as goal

@@ -1,6 +1,5 @@
 -- `room_cases::write_report` is safe and ends. Assumes nothing.
 use Prim.Native.Nat.{ℕ, ◌≤◌, min}
-use borrow.Author.Rules.{rules}
 use lib.ListN.{length-replicate}
 use mathlib.Core.Path.{◌≡◌}
 use native.Mathlib.Omega.{arith}
@@ -11,7 +10,7 @@ both : {a b r : ℕ} → r ≡ min a b → (r ≤ a) × (r ≤ b)
 both e = (omega arith, omega arith)
 
 pub put_rows-end-requires : goal.put_rows-end-requires
-put_rows-end-requires c =
+put_rows-end-requires g c =
     let n = both c.least.ensures in
     let n' = both c.least-2.ensures in
     let q = both c.least-3.ensures in
@@ -28,13 +27,13 @@ put_rows-end-requires c =
     )
 
 pub put_answer-from-requires : goal.put_answer-from-requires
-put_answer-from-requires c = let p = c.put_rows-end.ensures in (p.1, omega (arith, p.0.place, p.0.long, length-replicate {A = ℕ} 239771 0))
+put_answer-from-requires g c = let p = c.put_rows-end.ensures in (p.1, omega (arith, p.0.place, p.0.long, length-replicate {A = ℕ} 239771 0))
 
 pub slice_bounds-write_all-count : goal.slice_bounds-write_all-count
-slice_bounds-write_all-count c = omega (arith, c.put_answer-from.ensures.place, c.put_rows-end.ensures.0.place)
+slice_bounds-write_all-count g c = omega (arith, c.put_answer-from.ensures.place, c.put_rows-end.ensures.0.place)
 
 pub slice_bounds-write_all-start : goal.slice_bounds-write_all-start
-slice_bounds-write_all-start c = omega (arith, c.put_answer-from.ensures.place, c.put_rows-end.ensures.0.place)
+slice_bounds-write_all-start g c = omega (arith, c.put_answer-from.ensures.place, c.put_rows-end.ensures.0.place)
 
 pub slice_bounds-write_all-end : goal.slice_bounds-write_all-end
-slice_bounds-write_all-end c = omega (arith, c.put_answer-from.ensures.place, c.put_rows-end.ensures.0.place)
+slice_bounds-write_all-end g c = omega (arith, c.put_answer-from.ensures.place, c.put_rows-end.ensures.0.place)
