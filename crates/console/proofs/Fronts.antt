@@ -1,8 +1,8 @@
 -- The front of a list of which a middle part was written by a read.
 use Rattle.std.proofs.Common.{◌≡◌, ℕ, ◌+◌, ◌-◌, ◌≤◌, List, ◌++◌, arith, length, take, slice_range, sym, ap, ◌∙◌, subst, le_refl, drop_at, length-take-le}
 use Rattle.std.proofs.lemmas.Slice.{take-put_mid_below}
-use Rattle.std.specs.Io.KnownBytes.{Consumes, Keeps}
-use Rattle.std.proofs.KnownBytes.{Consumes-trans, Consumes-kept}
+use Rattle.std.specs.Io.KnownBytes.{Consumes}
+use Rattle.std.proofs.KnownBytes.{Consumes-trans}
 use Rattle.std.specs.declared.option.Option.{Option}
 use borrow.Rule.Slice.PartMut.{put_mid, post_of}
 use lib.Seq.{take-add, take-append-le}
@@ -28,10 +28,3 @@ front_longer a b c at room n size xs ys within fits is before read =
     let joined = take_split at (at + n) xs (put_mid at room xs ys) (omega arith) (take-put_mid_below _ _ _ _ _ (le_refl _) within) in
     let grown = subst (Consumes a c) (ap (λ l. take at xs ++ l) (sym part) ∙ joined) (Consumes-trans a b c _ _ before read) in
     subst (λ k. Consumes a c (take k (put_mid at room xs ys))) (sym is) grown
-
--- a read that failed leaves the front, and what the reader has
-pub front_kept : (a b c : Option (List ℕ)) (at room size : ℕ) (xs ys : List ℕ) → at ≤ length xs → size ≡ at
-    → Consumes a b (take at xs) → Keeps b c → Consumes a c (take size (put_mid at room xs ys))
-front_kept a b c at room size xs ys within is before read =
-    let same = subst (Consumes a c) (sym (take-put_mid_below at room xs ys at (le_refl at) within)) (Consumes-kept a b c _ before read) in
-    subst (λ k. Consumes a c (take k (put_mid at room xs ys))) (sym is) same

@@ -6,15 +6,14 @@ ghost use Rattle.std.specs.Prelude.{◌≡◌, ◌<◌, ◌≤◌, length, take,
 ghost use Rattle.std.specs.Io.{ReadsAtMost};
 ghost use Rattle.std.specs.Io.KnownBytes.{Consumes, IsAtEnd};
 
-use std::io::{ErrorKind, Read, Write};
+use std::io::{Read, Write};
 use std::{io, str};
 
 // The bytes of an error's text.
 const WORDS: usize = 256;
 
 // Reads until the buffer is full or the reader has no more; how many bytes stand at the buffer's front. A read that fails ends
-// it with the error, so that it is not taken for the end; one that a signal interrupts is tried again. An error leaves any
-// bytes in the buffer.
+// it with the error, so that it is not taken for the end. An error leaves any bytes in the buffer.
 pub fn read_full<R: Read>(reader: &mut R, buffer: &mut [u8]) -> io::Result<usize>
     ensures within { ReadsAtMost result buffer.new }
     ensures kept { length buffer.new ≡ length buffer.old }
@@ -22,21 +21,14 @@ pub fn read_full<R: Read>(reader: &mut R, buffer: &mut [u8]) -> io::Result<usize
     ensures end { IfOk result (λ n. n < length buffer.new → IsAtEnd (R.remaining reader.new)) }
 {
     let mut size = 0;
-    for _ in 0..u64::MAX {
-        if buffer.len() <= size {
-            return Ok(size);
-        }
+    while size < buffer.len() {
         match reader.read(&mut buffer[size..]) {
             Ok(0) => return Ok(size),
             Ok(count) => size += count,
-            Err(e) => {
-                if e.kind() != ErrorKind::Interrupted {
-                    return Err(e);
-                }
-            }
+            Err(e) => return Err(e),
         }
     }
-    Err(io::Error::from(ErrorKind::Interrupted))
+    Ok(size)
 }
 
 // Writes an error's text to the front of a buffer; how many bytes it has there.
@@ -73,7 +65,7 @@ pub fn input_whole(rt: &(impl Input + Eprint), input: &mut [u8]) -> io::Result<u
     }
 }
 
-// Writes a text to standard output.
+// Writes a text to standard output. After an error a part of it may be written.
 pub fn write_output(rt: &(impl Print + Eprint), text: &[u8]) -> io::Result<()> {
     match rt.write_all(text) {
         Ok(()) => Ok(()),

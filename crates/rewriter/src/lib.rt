@@ -109,6 +109,7 @@ fn refused(number: u32, place: usize) -> Answer
 }
 
 // Measures the form of an accepted document, and writes it where it is not too long and the output has the room.
+#[tactic(auto, using(rewriter_contract::proofs::Forms::form_long, rewriter_contract::proofs::Forms::room_small))]
 fn write_form(
     table: &[u16; 256],
     doc: &[u8],

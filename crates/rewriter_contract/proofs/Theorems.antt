@@ -72,12 +72,15 @@ module _ {doc n q v out n' q' v' out' : List ℕ} {a : Answer} (x : Rewrites doc
   pub formed : Formed doc (room_of n q v)
   formed = record { number_is = went.0; not_long = rw (sym (job_form doc (room_of n q v))) went.1.short }
 
-  -- under 0 the front of the output is the form
-  pub written : take a.length out' ≡ form_read doc (room_of n q v)
+  front_is : take a.length out' ≡ form_read doc (room_of n q v)
   unfolding output_of
-  written =
+  front_is =
       let f = form_of doc (reading doc (room_of n q v)) in
       rw (x.output_is, answered, went.1.length_is) (take_at f (drop (length f) out) (length f) refl ∙ job_form doc (room_of n q v))
+
+  -- under 0 the front of the output is the form
+  pub written : take a.length out' ≡ form_read doc (room_of n q v)
+  written = front_is
 
   form_length : a.length ≡ length (form_read doc (room_of n q v))
   form_length = went.1.length_is ∙ ap length (job_form doc (room_of n q v))
@@ -87,15 +90,15 @@ module _ {doc n q v out n' q' v' out' : List ℕ} {a : Answer} (x : Rewrites doc
 
   -- the tables that the document was read into hold the rows of what was written
   pub back_held : Holds (room_of n q v) (reading (take a.length out') (room_of n q v)).final
-  back_held = rw written (held (form_read doc (room_of n q v)) (room_of n q v) again_read.number_is)
+  back_held = rw front_is (held (form_read doc (room_of n q v)) (room_of n q v) again_read.number_is)
 
   -- demand 2: read back, with the same tables or any that hold its rows, it gives the same events and outer version
   pub read_back : (more : Room) → Holds more (reading (take a.length out') (room_of n q v)).final → ReadAlike doc (room_of n q v) (take a.length out') more
   read_back more h =
       let f = form_read doc (room_of n q v) in
       let r = again_read in
-      let s : ReadAlike f (room_of n q v) f more = read_any f (room_of n q v) more r.number_is (rw written at h) in
-      rw written (record { number_is = s.number_is; version_is = s.version_is ∙ r.version_is; events_are = s.events_are ∙ r.events_are })
+      let s : ReadAlike f (room_of n q v) f more = read_any f (room_of n q v) more r.number_is (rw front_is at h) in
+      rw front_is (record { number_is = s.number_is; version_is = s.version_is ∙ r.version_is; events_are = s.events_are ∙ r.events_are })
 
   -- the form of what was written, read with these tables
   form_back : (more : Room) → Holds more (reading (take a.length out') (room_of n q v)).final
@@ -103,7 +106,7 @@ module _ {doc n q v out n' q' v' out' : List ℕ} {a : Answer} (x : Rewrites doc
   form_back more h =
       let r = read_back more h in
       let same : form_read (take a.length out') more ≡ form_read doc (room_of n q v) = rw (r.version_is, r.events_are) in
-      job_form (take a.length out') more ∙ same ∙ sym written
+      job_form (take a.length out') more ∙ same ∙ sym front_is
 
 -- demand 2: rewritten again, with any tables that hold its rows and an output that holds it, it gives the same bytes
 pub again : {doc n q v out n' q' v' out' m p w more m' p' w' more' : List ℕ} {a b : Answer}
@@ -114,13 +117,13 @@ pub again : {doc n q v out n' q' v' out' m p w more m' p' w' more' : List ℕ} {
 again {doc} {n} {q} {v} {out' = out'} {m = m} {p = p} {w = w} {more = more} {a = a} {b = b} x ok y h fits =
     let F = take a.length out' in
     let e = form_back x ok (room_of m p w) h in
-    let l : length F ≡ a.length = ap length (written x ok) ∙ sym (form_length x ok) in
-    let s : length F ≤ longest = rw (written x ok) (formed x ok).not_long in
+    let l : length F ≡ a.length = ap length (front_is x ok) ∙ sym (form_length x ok) in
+    let s : length F ≤ longest = rw (front_is x ok) (formed x ok).not_long in
     let k : b.number ≡ accepted =
     ap (λ (c : Answer). c.number) y.answer_is
     ∙ went_answer F (reading F (room_of m p w)) (length more) (read_back x ok (room_of m p w) h).number_is (rw e s) (rw e (omega (arith, l, fits))) in
     let f : form_read F (room_of m p w) ≡ F = sym (job_form F (room_of m p w)) ∙ e in
-    (k, form_length y k ∙ ap length f ∙ l, written y k ∙ f)
+    (k, form_length y k ∙ ap length f ∙ l, front_is y k ∙ f)
 
 -- what two rewritings have written is equal exactly where the events and the outer versions are
 pub forms_exactly : {d n q v out n' q' v' out' e m p w more m' p' w' more' : List ℕ} {a b : Answer}
@@ -129,5 +132,5 @@ pub forms_exactly : {d n q v out n' q' v' out' e m p w more m' p' w' more' : Lis
     → (take a.length out' ≡ take b.length more')
     ↔ ((events_read d (room_of n q v) ≡ events_read e (room_of m p w)) × ((reading d (room_of n q v)).version ≡ (reading e (room_of m p w)).version))
 forms_exactly {d} {n} {q} {v} {e = e} {m = m} {p = p} {w = w} x ok y ok' =
-    rw (written x ok, written y ok')
+    rw (front_is x ok, front_is y ok')
     (same_forms d e (room_of n q v) (room_of m p w) (omega arith) (omega arith) (omega arith) (omega arith) (formed x ok) (formed y ok'))

@@ -11,12 +11,6 @@ use Rattle.rewriter.proofs.write_form.Goals as goal
 pub walk-size-requires : goal.walk-size-requires
 walk-size-requires c = let p = c.requires in (p.0, p.1, p.2, inl (omega (arith, length-replicate {A = ℕ} 1 0)))
 
-pub returns-then-size-gt-LONGEST : goal.returns-then-size-gt-LONGEST
-returns-then-size-gt-LONGEST c = let a = c.args in form_long (canonical a.read.version (events_in a.doc.now a.names.now a.qnames.now a.events.now a.read.names a.read.qnames a.read.events)) a.read.place a.out.now c.walk-size.ensures.past c.if-size-gt-LONGEST.true c.refused.ensures
-
-pub returns-then-out-size : goal.returns-then-out-size
-returns-then-out-size c = let a = c.args in room_small (canonical a.read.version (events_in a.doc.now a.names.now a.qnames.now a.events.now a.read.names a.read.qnames a.read.events)) a.read.place a.out.now c.walk-size.ensures.past c.if-size-gt-LONGEST.false c.if-out-size.true c.refused-then-out-size.ensures
-
 pub walk-requires : goal.walk-requires
 walk-requires c = let p = c.requires in (p.0, p.1, p.2, inr (let e = c.walk-size.ensures.past in let l = c.if-out-size.false in omega arith))
 
