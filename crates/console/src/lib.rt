@@ -53,13 +53,15 @@ pub fn failed(rt: &impl Eprint, what: &str, error: io::Error) -> io::Error
     error
 }
 
-// Reads standard input to its end, or until the buffer is full; how many bytes stand at the buffer's front. An error leaves any
-// bytes in the buffer.
-pub fn input_whole(rt: &(impl Input + Eprint), input: &mut [u8]) -> io::Result<usize>
+// Reads standard input, which `reader` is, to its end, or until the buffer is full; how many bytes stand at the buffer's front. A read
+// that fails is said. An error leaves any bytes in the buffer.
+pub fn input_whole<R: Read>(rt: &impl Eprint, reader: &mut R, input: &mut [u8]) -> io::Result<usize>
     ensures within { ReadsAtMost result input.new }
     ensures kept { length input.new ≡ length input.old }
+    ensures bytes { IfOk result (λ n. Consumes (R.remaining reader.old) (R.remaining reader.new) (take n input.new)) }
+    ensures end { IfOk result (λ n. n < length input.new → IsAtEnd (R.remaining reader.new)) }
 {
-    match read_full(&mut rt.reader(), input) {
+    match read_full(reader, input) {
         Ok(size) => Ok(size),
         Err(e) => Err(failed(rt, "standard input", e)),
     }

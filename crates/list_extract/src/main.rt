@@ -10,7 +10,7 @@ const INPUT: usize = token::LONGEST + 1;
 
 fn main(rt: HostRuntime) -> io::Result<()> {
     let mut doc = [0u8; INPUT];
-    let size = console::input_whole(&rt, &mut doc)?;
+    let size = console::input_whole(&rt, &mut rt.reader(), &mut doc)?;
     let mut text = print_listing::blank();
     let from = print_listing::print(&doc[..size], &mut text);
     console::write_output(&rt, &text[from..])

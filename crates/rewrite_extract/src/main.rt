@@ -34,7 +34,7 @@ fn write_front(rt: &(impl Print + Eprint), out: &[u8], size: usize) -> io::Resul
 
 fn main(rt: HostRuntime) -> io::Result<()> {
     let mut doc = [0u8; INPUT];
-    let size = console::input_whole(&rt, &mut doc)?;
+    let size = console::input_whole(&rt, &mut rt.reader(), &mut doc)?;
     let mut names = [0u32; token::NAME_TABLE];
     let mut qnames = [0u32; token::QNAME_TABLE];
     let mut events = [0u32; token::EVENT_TABLE];

@@ -127,6 +127,6 @@ fn run(rt: &impl Print, text: &[u8]) -> io::Result<()> {
 
 fn main(rt: HostRuntime) -> io::Result<()> {
     let mut text = [0u8; INPUT];
-    let size = console::input_whole(&rt, &mut text)?;
+    let size = console::input_whole(&rt, &mut rt.reader(), &mut text)?;
     run(&rt, &text[..size])
 }

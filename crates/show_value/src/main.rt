@@ -10,7 +10,7 @@ const INPUT: usize = token::LONGEST + 2;
 
 fn main(rt: HostRuntime) -> io::Result<()> {
     let mut input = [0u8; INPUT];
-    let size = console::input_whole(&rt, &mut input)?;
+    let size = console::input_whole(&rt, &mut rt.reader(), &mut input)?;
     let mut text = print_value::blank();
     let from = print_value::print(&input[..size], &mut text);
     console::write_output(&rt, &text[from..])

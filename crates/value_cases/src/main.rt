@@ -56,6 +56,6 @@ fn run(rt: &impl Print, table: &[u16; 256], text: &[u8]) -> io::Result<()>
 
 fn main(rt: HostRuntime) -> io::Result<()> {
     let mut text = [0u8; INPUT];
-    let size = console::input_whole(&rt, &mut text)?;
+    let size = console::input_whole(&rt, &mut rt.reader(), &mut text)?;
     run(&rt, &token::table(), &text[..size])
 }

@@ -13,7 +13,7 @@ open-requires c =
     (q.0, q.1, omega (arith, g.at_is, c.requires.2), omega (arith, g.depth_is, c.requires.6))
 
 pub returns-then-token-eq-ELEMENT : goal.returns-then-token-eq-ELEMENT
-returns-then-token-eq-ELEMENT c = done_open c.args.doc.now _ c.if-token-eq-ELEMENT.true c.begin.ensures c.before.before.«open».ensures
+returns-then-token-eq-ELEMENT c = done_open c.args.doc.now _ c.if-token-eq-ELEMENT.true c.begin.ensures c.«open».ensures
 
 pub close-requires : goal.close-requires
 close-requires c = omega (arith, c.requires.2)
