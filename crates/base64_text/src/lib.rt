@@ -27,14 +27,14 @@ fn letter_of(t: &[u8; LETTER_COUNT], v: u8) -> u8
     requires { Alphabet t.now × (v < 64) }
     ensures { result ≡ letter v }
 {
-    t[v as usize]
+    t[usize::from(v)]
 }
 
 // The byte at `i`, or 0 past the end.
 fn byte_or_zero(p: &[u8], i: usize) -> u8
     ensures { result ≡ get_or p.now i 0 }
 {
-    if i < p.len() { p[i] } else { 0 }
+    p.get(i).copied().unwrap_or(0)
 }
 
 // Stores four ASCII characters as units, from byte `at` on.
@@ -90,10 +90,8 @@ fn put_groups(t: &[u8; LETTER_COUNT], p: &[u8], out: &mut [u8], n: usize)
     requires { Alphabet t.now × (3 * n ≤ length p.now) × (8 * n ≤ length out.old) }
     ensures { out.new ≡ sets out.old 0 (bytes_of (base64 (take (3 * n) p.now))) }
 {
-    let mut k: usize = 0;
-    while k < n {
+    for k in 0..n {
         put_three(t, out, 8 * k, p[3 * k], p[3 * k + 1], p[3 * k + 2]);
-        k += 1;
     }
 }
 
@@ -156,5 +154,5 @@ pub fn base64_unit(t: &[u8; LETTER_COUNT], p: &[u8], k: usize) -> u16
     requires { Alphabet t.now × (k < (length p.now + 2) / 3 * 4) × (length p.now ≤ longest) }
     ensures { result ≡ get_or (base64 p.now) k 0 }
 {
-    slices::wide16(base64_char(t, p, k))
+    u16::from(base64_char(t, p, k))
 }

@@ -23,10 +23,8 @@ const XSD_BINHEX: u8 = 0x84;
 const PAIRS: usize = 16384;
 
 // Writes a job's answer in one line.
-fn write_answer(rt: &impl Print, job: &[u8], number: u32, place: usize) -> io::Result<()> {
-    cases::say(rt, job, number as usize)?;
-    cases::say(rt, b" at ", place)?;
-    rt.write_all(b"\n")
+fn write_answer(rt: &impl Print, job: &str, number: u32, place: usize) -> io::Result<()> {
+    println!(rt; "{job} {number} at {place}")
 }
 
 fn read(rt: &impl Print, doc: &[u8]) -> io::Result<()> {
@@ -34,7 +32,7 @@ fn read(rt: &impl Print, doc: &[u8]) -> io::Result<()> {
     let mut qnames = [0u32; cases::QNAMES];
     let mut events = [0u32; cases::EVENTS];
     let a: machine::Answer = reader::read(doc, &mut names, &mut qnames, &mut events);
-    write_answer(rt, b"read ", a.number, a.place)
+    write_answer(rt, "read", a.number, a.place)
 }
 
 fn rewrite(rt: &impl Print, doc: &[u8]) -> io::Result<()> {
@@ -49,7 +47,7 @@ fn rewrite(rt: &impl Print, doc: &[u8]) -> io::Result<()> {
         &mut events,
         &mut out,
     );
-    write_answer(rt, b"rewrite ", a.number, a.place)
+    write_answer(rt, "rewrite", a.number, a.place)
 }
 
 fn list(rt: &impl Print, doc: &[u8]) -> io::Result<()> {
@@ -64,17 +62,16 @@ fn list(rt: &impl Print, doc: &[u8]) -> io::Result<()> {
         &mut events,
         &mut pairs,
     );
-    write_answer(rt, b"list ", a.number, a.place)
+    write_answer(rt, "list", a.number, a.place)
 }
 
 // The payload of a blob, in hexadecimal.
 fn show(rt: &impl Print, payload: &[u8]) -> io::Result<()> {
     let mut buffer = [0u8; TEXT];
     match text::show(XSD_BINHEX, payload, &mut buffer) {
-        Shown::Own(n) => write_answer(rt, b"show ", token::ACCEPTED, n),
-        Shown::Made(n) => write_answer(rt, b"show ", token::ACCEPTED, n),
-        Shown::Short(n) => write_answer(rt, b"show ", token::NO_ROOM, n),
-        Shown::NoText => write_answer(rt, b"show ", token::NO_TEXT, 0),
+        Shown::Own(n) | Shown::Made(n) => write_answer(rt, "show", token::ACCEPTED, n),
+        Shown::Short(n) => write_answer(rt, "show", token::NO_ROOM, n),
+        Shown::NoText => write_answer(rt, "show", token::NO_TEXT, 0),
     }
 }
 

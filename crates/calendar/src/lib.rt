@@ -25,16 +25,11 @@ const DAYS_OF_4_YEARS: u32 = 1461;
 // The days of a year in which February had 30.
 const EVENED_DAYS: u32 = 367;
 
+#[tactic(auto, unfolding(crate::specs::Calendar::leap))]
 fn is_leap(year: u32) -> bool
     ensures { result ≡ leap year }
 {
-    if year % 4 != 0 {
-        return false;
-    }
-    if year % 100 != 0 {
-        return true;
-    }
-    year % 400 == 0
+    year % 4 == 0 && (year % 100 != 0 || year % 400 == 0)
 }
 
 // The day of the year, from 0 on, as if February had 30 days.
@@ -64,6 +59,7 @@ fn date_in(year: u32, evened: u32) -> Date
 }
 
 // The date of day number n.
+#[tactic(auto, unfolding(crate::specs::Dates::date_of))]
 pub fn date_of(n: u32) -> Date
     requires { n ≤ last_day }
     ensures { result ≡ date_of n }

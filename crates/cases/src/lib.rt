@@ -26,34 +26,13 @@ pub const TEXT_ROOM: usize = 2097153;
 // The bytes of the longest argument.
 const ARGUMENT: usize = 4096;
 
-// The end of the line that begins at a place: the next line feed, or the text's end.
-pub fn line_end(text: &[u8], from: usize) -> usize
-    requires { from ≤ length text.now }
-    ensures { (from ≤ result) × (result ≤ length text.now) }
-{
-    let mut at = from;
-    while at < text.len() {
-        if text[at] == b'\n' {
-            return at;
-        }
-        at += 1;
-    }
-    at
-}
-
 // The end of the word that begins at a place: the next space, or the line's end.
 pub fn word_end(line: &[u8], from: usize) -> usize
     requires { from ≤ length line.now }
     ensures { (from ≤ result) × (result ≤ length line.now) }
 {
-    let mut at = from;
-    while at < line.len() {
-        if line[at] == b' ' {
-            return at;
-        }
-        at += 1;
-    }
-    at
+    let rest = &line[from..];
+    from + rest.iter().position(|b| *b == b' ').unwrap_or(rest.len())
 }
 
 // The place after a word and the space that ends it.
@@ -80,25 +59,14 @@ pub fn bytes(word: &[u8], out: &mut [u8]) -> usize
     ensures { (result ≤ length out.new) × (length out.new ≡ length out.old) }
 {
     let mut count = 0;
-    let mut at = 0;
-    while at < word.len() {
-        if word.len() - at < 2 {
-            return count;
-        }
-        let high = digit(word[at]);
-        let low = digit(word[at + 1]);
-        if 15 < high {
-            return count;
-        }
-        if 15 < low {
-            return count;
-        }
-        if out.len() <= count {
-            return count;
+    for pair in word.chunks_exact(2) {
+        let high = digit(pair[0]);
+        let low = digit(pair[1]);
+        if 15 < high || 15 < low || out.len() <= count {
+            break;
         }
         out[count] = high * 16 + low;
         count += 1;
-        at += 2;
     }
     count
 }
@@ -108,60 +76,26 @@ pub fn decimal(word: &[u8]) -> usize
     ensures { result ≤ 99999999 }
 {
     let mut value: usize = 0;
-    let mut at = 0;
-    while at < word.len() {
-        let d = digit(word[at]);
-        if 9 < d {
-            return value;
-        }
+    for b in word {
+        let d = digit(*b);
         let next = value * 10 + d as usize;
-        if 99999999 < next {
-            return value;
+        if 9 < d || 99999999 < next {
+            break;
         }
         value = next;
-        at += 1;
     }
     value
 }
 
-// Writes a word and a number.
-pub fn say(rt: &impl Print, word: &[u8], number: usize) -> io::Result<()> {
-    rt.write_all(word)?;
-    rt.print(number)
-}
-
-// Whether a byte from `from` on is not the mark that stood there.
-pub fn changed_bytes(bytes: &[u8], from: usize, mark: u8) -> bool {
-    let mut at = from;
-    while at < bytes.len() {
-        if bytes[at] != mark {
-            return true;
-        }
-        at += 1;
-    }
-    false
-}
-
-// Whether a number from `from` on is not the mark that stood there.
-pub fn changed(numbers: &[u32], from: usize, mark: u32) -> bool {
-    let mut at = from;
-    while at < numbers.len() {
-        if numbers[at] != mark {
-            return true;
-        }
-        at += 1;
-    }
-    false
+// Whether an element from `from` on is not the mark that stood there.
+pub fn changed<T: PartialEq + Copy>(items: &[T], from: usize, mark: T) -> bool {
+    items.iter().skip(from).any(|x| *x != mark)
 }
 
 // Whether the program has an argument at a place.
 fn has_argument(rt: &impl Env, i: usize) -> bool {
     let mut word = [0u8; ARGUMENT];
-    match rt.arg(i, &mut word) {
-        Ok(_) => true,
-        Err(FillError::TooLong) => true,
-        Err(FillError::NotPresent) => false,
-    }
+    !matches!(rt.arg(i, &mut word), Err(FillError::NotPresent))
 }
 
 // The number that an argument of the program spells.
@@ -194,13 +128,11 @@ pub fn load<R: Files + Env + Eprint>(rt: &R, i: usize, buffer: &mut [u8]) -> io:
         let error = io::Error::new(ErrorKind::InvalidInput, "not UTF-8");
         return Err(console::failed(rt, "a file's name", error));
     };
-    match read_file(rt, path, buffer) {
-        Ok(size) => Ok(size),
-        Err(e) => Err(console::failed(rt, path, e)),
-    }
+    read_file(rt, path, buffer).map_err(|e| console::failed(rt, path, e))
 }
 
 // Zeros for the text of the files. The `ensures` gives only the length, so that no proof computes with a list so long.
+// No const parameter for the room: docs/PROVING.md names this function, and its body is one line.
 pub fn text_buffer() -> [u8; TEXT_ROOM]
     ensures { 2097153 ≡ length result }
 {

@@ -1,65 +1,75 @@
 -- Little-endian numbers: the loop that reads one, and a number cut into limbs of four bytes. Assumes nothing.
 use Prim.Native.Nat.{ℕ, zero, suc, ◌+◌, ◌-◌, ◌*◌, ◌^◌, ◌≤◌, ◌<◌}
-use mathlib.Core.Path.{◌≡◌, sym, ◌∙◌, ap}
-use mathlib.Core.List.{List, [], ◌∷◌}
-use native.Mathlib.Nat.{pow-succ', pow-le-pow_right, one-le-pow, mul_assoc, mul-zero}
+use mathlib.Core.Path.{◌≡◌, refl, sym, ◌∙◌, ap}
+use mathlib.Core.List.{List, [], ◌∷◌, ◌++◌, append_assoc, append-nil}
+use native.Mathlib.Nat.{pow-succ', pow-le-pow_right, mul_assoc, mul-zero}
 use native.Mathlib.Omega.{arith}
-use lib.ListN.{length, get_or, take, drop, length-drop, drop_of_length-le}
-use lib.Seq.{slice, slice-cons, slice_empty, take-add, take_all, drop_at, drop-drop, length-take-le}
-use Rattle.sequences.specs.Lists.{little}
+use lib.ListN.{length, take, drop, length-append, length-drop, drop_of_length-le}
+use lib.Dec.{lit<}
+use Rattle.std.specs.List.{push}
+use lib.Seq.{slice, take-add, take_all, drop_at, drop-drop, length-take-le}
+use Rattle.sequences.specs.Lists.{Bytes, part, little}
+use Rattle.sequences.proofs.Units.{bytes_first, bytes_rest, bytes_take, bytes_drop}
 
--- ---- the loop: the bytes from i up to `to` are read
+-- ---- the loop: the bytes `done` are read from the end, those of `rest` are left
 
-pub record Summed (p : List ℕ) (from to i v : ℕ) : Type 0 where
-  pub above : from ≤ i
-  pub below : i ≤ to
-  pub is : v ≡ little (slice i to p)
-  pub less : v < 256 ^ (to - i)
+bytes_after : (a : List ℕ) {l : List ℕ} → Bytes (a ++ l) → Bytes l
+bytes_after [] h = h
+bytes_after (x ∷ a) h = bytes_after a (bytes_rest h)
 
-pub summed_start : (p : List ℕ) {from to : ℕ} → from ≤ to → Summed p from to to 0
-summed_start p {from} {to} h = record {
-  above = h;
-  below = omega arith;
-  is = sym (ap little (slice_empty to p));
-  less = one-le-pow (to - to) 256 (omega arith);
-}
+pub record Summed (bytes rest : List ℕ) (v : ℕ) : Type 0 where
+  pub done : List ℕ
+  pub split : rest ++ done ≡ bytes
+  pub is : v ≡ little done
+  pub less : v < 256 ^ length done
 
-module _ {p : List ℕ} {from to i v : ℕ} (s : Summed p from to i v) (h : from < i) (w : to ≤ from + 8) where
-  wide_enough : 256 * 256 ^ (to - i) ≤ 2 ^ 64
+pub summed_start : {bytes rest : List ℕ} → rest ≡ bytes → Summed bytes rest 0
+summed_start {rest = rest} e = record { done = []; split = append-nil rest ∙ e; is = refl; less = lit< tt }
+
+module _ {bytes rest : List ℕ} {v : ℕ} (s : Summed bytes rest v) (w : length bytes ≤ 8) (each : Bytes bytes) (left : List ℕ) (b : ℕ)
+    (e : rest ≡ push left b) where
+  whole : left ++ (b ∷ s.done) ≡ bytes
+  whole = sym (append_assoc left (b ∷ []) s.done) ∙ rw e at s.split
+
+  byte : b < 256
+  byte = bytes_first (bytes_after left (rw (← whole) at each))
+
+  wide_enough : 256 * 256 ^ length s.done ≤ 2 ^ 64
   wide_enough =
-      let t = s.below in
-      let b : suc (to - i) ≤ 8 = omega arith in
-      let q : 256 ^ suc (to - i) ≤ 256 ^ 8 = pow-le-pow_right {n = 256} (omega arith) b in
-      rw (pow-succ' 256 (to - i)) at q
+      let n : length (left ++ (b ∷ s.done)) ≡ length bytes = ap length whole in
+      let m = length-append left (b ∷ s.done) in
+      let k : suc (length s.done) ≤ 8 = omega arith in
+      let q : 256 ^ suc (length s.done) ≤ 256 ^ 8 = pow-le-pow_right {n = 256} (omega arith) k in
+      rw (pow-succ' 256 (length s.done)) at q
 
   pub summed_mul : v * 256 < 2 ^ 64
   summed_mul = let q = wide_enough in let l = s.less in omega arith
 
-  pub summed_add : {b : ℕ} → b < 256 → v * 256 + b < 2 ^ 64
-  summed_add k = let q = wide_enough in let l = s.less in omega arith
+  pub summed_add : v * 256 + b < 2 ^ 64
+  summed_add = let k = byte in let q = wide_enough in let l = s.less in omega arith
 
-  pub summed_next : to ≤ length p → get_or p (i - 1) 0 < 256 → Summed p from to (i - 1) (v * 256 + get_or p (i - 1) 0)
-  summed_next k b =
-      let t = s.below in
-      let less = s.less in
-      let z : suc (i - 1) ≡ i = omega arith in
-      let l : i - 1 < to = omega arith in
-      let e : to - (i - 1) ≡ suc (to - i) = omega arith in
-      let cut : slice (i - 1) to p ≡ get_or p (i - 1) 0 ∷ slice i to p =
-      slice-cons (i - 1) to p 0 l k ∙ ap (λ (x : ℕ). get_or p (i - 1) 0 ∷ slice x to p) z in
-      record {
-        above = omega arith;
-        below = omega arith;
-        is = rw (cut, ← s.is) (omega arith);
-        less = rw (e, pow-succ') (omega arith);
-      }
+  pub summed_next : Summed bytes left (v * 256 + b)
+  summed_next =
+      let k = byte in
+      let l = s.less in
+      record { done = b ∷ s.done; split = whole; is = rw (← s.is) (omega arith); less = rw pow-succ' (omega arith) }
 
-pub summed_end : {p : List ℕ} {from to i v : ℕ} → Summed p from to i v → i ≤ from
-    → (v ≡ little (slice from to p)) × (v < 256 ^ (to - from))
-summed_end {from = from} {i = i} s h =
-    let k = s.above in
-    let z : i ≡ from = omega arith in
-    (rw z at s.is, rw z at s.less)
+pub summed_end : {bytes rest : List ℕ} {v : ℕ} → Summed bytes rest v → length rest ≡ 0 → (v ≡ little bytes) × (v < 256 ^ length bytes)
+summed_end {rest = []} s e = (rw s.split at s.is, rw s.split at s.less)
+summed_end {rest = x ∷ rest} s e = absurd (let q : ⊥ = omega arith in q)
+
+-- the part p[from..to]
+pub part_slice : (p : List ℕ) (from to : ℕ) → from ≤ to → to ≤ length p → part p from (to - from) ≡ slice from to p
+part_slice p from to h k =
+    let z : from + (to - from) ≡ to = omega arith in
+    let fits = length-take-le from p (omega arith) in
+    sym (rw z at (ap (λ (x : List ℕ). drop from x) (take-add from (to - from) p) ∙ drop_at (take from p) (part p from (to - from)) from fits))
+
+pub part_long : (p : List ℕ) (from to : ℕ) → from ≤ to → to ≤ length p → length (part p from (to - from)) ≡ to - from
+part_long p from to h k = length-take-le (to - from) (drop from p) (let e = length-drop from p in omega arith)
+
+pub part_bytes : {p : List ℕ} (from to : ℕ) → Bytes p → Bytes (part p from (to - from))
+part_bytes from to h = bytes_take (to - from) (bytes_drop from h)
 
 -- ---- limbs of four bytes
 

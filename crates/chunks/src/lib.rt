@@ -6,6 +6,13 @@ ghost use Rattle.std.proofs.Math.Seq.{slice};
 ghost use Rattle.sequences.specs.Lists.{part, little};
 ghost use Rattle.chunks.specs.Chunks.{word_size, chunks_value, Chunked, limbs_value, LimbsFit, Divides};
 
+// One more than the largest number of a chunk, of nine digits and of a limb.
+const CHUNK: u64 = 1_000_000_000_000_000_000;
+
+const NINE_DIGITS: u64 = 1_000_000_000;
+
+const LIMB: u64 = 4_294_967_296;
+
 // A number: `low` has its last `left` digits, `mid` the 18 above them, `high` the rest.
 #[derive(Clone, Copy)]
 pub struct Chunks {
@@ -24,43 +31,16 @@ pub struct Limbs {
     d: u64,
 }
 
-// What a division gives.
-#[derive(Clone, Copy)]
-struct Divided {
-    quotient: Limbs,
-    rest: u64,
-}
-
 // The number of the bytes p[from..to], at most eight, the least significant first.
 pub fn little_at(p: &[u8], from: usize, to: usize) -> u64
     requires { (from ≤ to) × (to ≤ length p.now) × (to ≤ from + 8) }
     ensures { (result ≡ little (slice from to p.now)) × (result < 256 ^ (to - from)) }
 {
-    let mut i = to;
     let mut v: u64 = 0;
-    while from < i {
-        i -= 1;
-        v = v * 256 + p[i] as u64;
+    for b in p[from..to].iter().rev() {
+        v = v * 256 + u64::from(*b);
     }
     v
-}
-
-// The numbers of two and of four bytes, each one sum of products: the compiler makes one load of it.
-fn two(p: &[u8], at: usize) -> u64
-    requires { at + 2 ≤ length p.now }
-    ensures { (result ≡ little (part p.now at 2)) × (result < 65536) }
-{
-    slices::wide64(p[at]) + 256 * slices::wide64(p[at + 1])
-}
-
-fn four(p: &[u8], at: usize) -> u64
-    requires { at + 4 ≤ length p.now }
-    ensures { (result ≡ little (part p.now at 4)) × (result < 4294967296) }
-{
-    slices::wide64(p[at])
-        + 256 * slices::wide64(p[at + 1])
-        + 65536 * slices::wide64(p[at + 2])
-        + 16777216 * slices::wide64(p[at + 3])
 }
 
 // The number of 1, 2, 4 or 8 bytes, the least significant first.
@@ -68,11 +48,13 @@ pub fn word_of(p: &[u8]) -> u64
     requires { word_size (length p.now) ≡ true }
     ensures { (result ≡ little p.now) × (result < 256 ^ length p.now) }
 {
-    match p.len() {
-        1 => slices::wide64(p[0]),
-        2 => two(p, 0),
-        4 => four(p, 0),
-        _ => four(p, 0) + 4294967296 * four(p, 4),
+    match p {
+        [a] => u64::from(*a),
+        [a, b] => u64::from(u16::from_le_bytes([*a, *b])),
+        [a, b, c, d] => u64::from(u32::from_le_bytes([*a, *b, *c, *d])),
+        [a, b, c, d, e, f, g, h] => u64::from_le_bytes([*a, *b, *c, *d, *e, *f, *g, *h]),
+        // there is no other size
+        _ => 0,
     }
 }
 
@@ -80,7 +62,7 @@ pub fn word_of(p: &[u8]) -> u64
 pub fn of_word(n: u64) -> Chunks
     ensures { (chunks_value result ≡ n) × Chunked result }
 {
-    if n < 1000000000000000000 {
+    if n < CHUNK {
         return Chunks {
             low: n,
             mid: 0,
@@ -89,8 +71,8 @@ pub fn of_word(n: u64) -> Chunks
         };
     }
     Chunks {
-        low: n % 1000000000000000000,
-        mid: n / 1000000000000000000,
+        low: n % CHUNK,
+        mid: n / CHUNK,
         high: 0,
         left: 18,
     }
@@ -120,21 +102,18 @@ fn limbs_from(p: &[u8], from: usize) -> Limbs
 }
 
 // Quotient and rest by 10^9, limb by limb from the top. A rest below 10^9 and the next limb fit a u64 together.
-fn divide(l: Limbs) -> Divided
+fn divide(l: Limbs) -> (Limbs, u64)
     requires { LimbsFit l }
-    ensures { Divides l result.quotient result.rest }
+    ensures { Divides l result.0 result.1 }
 {
-    let d = l.d / 1000000000;
-    let x = (l.d % 1000000000) * 4294967296 + l.c;
-    let c = x / 1000000000;
-    let y = (x % 1000000000) * 4294967296 + l.b;
-    let b = y / 1000000000;
-    let z = (y % 1000000000) * 4294967296 + l.a;
-    let a = z / 1000000000;
-    Divided {
-        quotient: Limbs { a, b, c, d },
-        rest: z % 1000000000,
-    }
+    let d = l.d / NINE_DIGITS;
+    let x = (l.d % NINE_DIGITS) * LIMB + l.c;
+    let c = x / NINE_DIGITS;
+    let y = (x % NINE_DIGITS) * LIMB + l.b;
+    let b = y / NINE_DIGITS;
+    let z = (y % NINE_DIGITS) * LIMB + l.a;
+    let a = z / NINE_DIGITS;
+    (Limbs { a, b, c, d }, z % NINE_DIGITS)
 }
 
 // The chunks of a number of 128 bits: two divisions give the 18 digits of a chunk.
@@ -142,14 +121,14 @@ fn of_limbs(l: Limbs) -> Chunks
     requires { LimbsFit l }
     ensures { (chunks_value result ≡ limbs_value l) × Chunked result × (chunks_value result < 10 ^ 39) }
 {
-    let s = divide(l);
-    let t = divide(s.quotient);
-    let u = divide(t.quotient);
-    let v = divide(u.quotient);
+    let (q, r) = divide(l);
+    let (s, t) = divide(q);
+    let (u, v) = divide(s);
+    let (w, x) = divide(u);
     Chunks {
-        low: s.rest + 1000000000 * t.rest,
-        mid: u.rest + 1000000000 * v.rest,
-        high: v.quotient.a,
+        low: r + NINE_DIGITS * t,
+        mid: v + NINE_DIGITS * x,
+        high: w.a,
         left: 18,
     }
 }

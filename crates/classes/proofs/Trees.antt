@@ -11,7 +11,7 @@ use borrow.Author.Count.{below_none, below_more}
 use borrow.Author.Tests.{ltb-true, ltb-false, eqb-true, eqb-false}
 use Rattle.sequences.proofs.Tests.{cond_if}
 use Rattle.classes.proofs.FirstValues.{FirstValues}
-use Rattle.classes.specs.Tree.{below, Met, there, down, Stands, Tree, Kept, Spot}
+use Rattle.classes.specs.Tree.{below, Met, there, down, Stands, Tree, Shaped, Kept, Spot}
 
 module _ {A : Type 0} {m : ℕ → A} {tree : List ℕ} where
   -- what is met past a row that has not the value is met below it
@@ -88,6 +88,10 @@ module _ {A : Type 0} {hash : A → ℕ} {m : ℕ → A} {r : ℕ} {tree : List 
 pub spot_holds : {A : Type 0} {hash : A → ℕ} {m : ℕ → A} {r p : ℕ} {tree : List ℕ} → Tree hash m r tree → Spot hash m r tree p → r < 1024
     → (p < 4087) × (r < 1024) × (get_or tree p 0 ≤ 1024)
 spot_holds {p = p} t s l = let h : p < 4087 = omega (arith, s.inside) in (h, l, t.within p h)
+
+-- what the way down needs of a tree
+pub tree_shaped : {A : Type 0} {hash : A → ℕ} {m : ℕ → A} {r : ℕ} {tree : List ℕ} → Tree hash m r tree → Shaped r tree
+tree_shaped t = record { held = t.within; earlier = t.before; deeper = t.after }
 
 -- no row
 pub tree_none : {A : Type 0} (hash : A → ℕ) (m : ℕ → A) (tree : List ℕ) → length tree ≡ 4087 → ((p : ℕ) → p < 4087 → get_or tree p 0 ≡ 1024) → Tree hash m 0 tree

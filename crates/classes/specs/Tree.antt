@@ -1,6 +1,6 @@
 -- Serves the code. The tree in which the first row of each value stands: a place for each slot of the value's hash, and two below
 -- each row, for the bits of the hash. Places hold rows, or 1,024 for none.
-use Rattle.std.specs.Prelude.{ℕ, ◌+◌, ◌*◌, ◌/◌, ◌%◌, ◌≤◌, ◌<◌, ◌≡◌, List, length, get_or}
+use Rattle.std.specs.Prelude.{ℕ, ◌+◌, ◌*◌, ◌/◌, ◌%◌, ◌≤◌, ◌<◌, ◌≡◌, Bool, true, List, length, get_or}
 use Rattle.token.specs.Tokens.{name_rows}
 
 -- the slots, a prime number, and all places
@@ -34,6 +34,16 @@ pub record Tree {A : Type 0} (hash : A → ℕ) (m : ℕ → A) (n : ℕ) (tree 
   pub before : (p : ℕ) → p < tree_places → get_or tree p 0 < name_rows → get_or tree p 0 < n
   pub after : (j x : ℕ) → j < name_rows → j < get_or tree (below j x) 0
   pub each : (k : ℕ) → k < n → Stands hash m tree (m k)
+
+-- what the way down needs of a tree of the first n rows
+pub record Shaped (n : ℕ) (tree : List ℕ) : Type 0 where
+  pub held : (p : ℕ) → p < tree_places → get_or tree p 0 ≤ name_rows
+  pub earlier : (p : ℕ) → p < tree_places → get_or tree p 0 < name_rows → get_or tree p 0 < n
+  pub deeper : (j x : ℕ) → j < name_rows → j < get_or tree (below j x) 0
+
+-- a test's results tell which rows before row r have its value
+abbrev pub TellsRow : (ℕ → Bool → Type 0) → (ℕ → List ℕ) → ℕ → Type 0
+TellsRow test m r = (j : ℕ) (b : Bool) → j < r → test j b → (b ≡ true → m j ≡ m r) × (m j ≡ m r → b ≡ true)
 
 -- what stands in one tree stands in the other
 abbrev pub Kept : List ℕ → List ℕ → Type 0

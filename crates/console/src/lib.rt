@@ -61,16 +61,11 @@ pub fn input_whole<R: Read>(rt: &impl Eprint, reader: &mut R, input: &mut [u8]) 
     ensures bytes { IfOk result (λ n. Consumes (R.remaining reader.old) (R.remaining reader.new) (take n input.new)) }
     ensures end { IfOk result (λ n. n < length input.new → IsAtEnd (R.remaining reader.new)) }
 {
-    match read_full(reader, input) {
-        Ok(size) => Ok(size),
-        Err(e) => Err(failed(rt, "standard input", e)),
-    }
+    read_full(reader, input).map_err(|e| failed(rt, "standard input", e))
 }
 
 // Writes a text to standard output. After an error a part of it may be written.
 pub fn write_output(rt: &(impl Print + Eprint), text: &[u8]) -> io::Result<()> {
-    match rt.write_all(text) {
-        Ok(()) => Ok(()),
-        Err(e) => Err(failed(rt, "standard output", e)),
-    }
+    rt.write_all(text)
+        .map_err(|e| failed(rt, "standard output", e))
 }

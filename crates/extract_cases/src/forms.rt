@@ -17,13 +17,11 @@ const DIGITS_ROOM: usize = 131072;
 // Writes the answer in one line.
 fn write_answer(rt: &impl Print, a: Answer) -> io::Result<()> {
     if a.number == 0 {
-        cases::say(rt, b"accepted ", a.place)?;
+        print!(rt; "accepted {}", a.place)?;
     } else {
-        cases::say(rt, b"refused ", a.number as usize)?;
-        cases::say(rt, b" at ", a.place)?;
+        print!(rt; "refused {} at {}", a.number, a.place)?;
     }
-    cases::say(rt, b" length ", a.length)?;
-    rt.write_all(b"\n")
+    println!(rt; " length {}", a.length)
 }
 
 // Writes bytes in hexadecimal, and a line feed.
@@ -44,7 +42,7 @@ fn write_form(rt: &impl Print, out: &[u8], size: usize) -> io::Result<()>
         return Ok(());
     }
     write_digits(rt, &out[..size])?;
-    if cases::changed_bytes(out, size, MARK) {
+    if cases::changed(out, size, MARK) {
         rt.write_all(b"changed\n")?;
     }
     Ok(())
@@ -76,13 +74,7 @@ fn rewrite_into(rt: &impl Print, doc: &[u8], room: usize) -> io::Result<Answer>
 fn too_small(length: usize) -> usize
     ensures { result ≤ longest }
 {
-    if length == 0 {
-        return 0;
-    }
-    if FORM_ROOM < length {
-        return FORM_ROOM;
-    }
-    length - 1
+    length.saturating_sub(1).min(FORM_ROOM)
 }
 
 // Rewrites a document into an output with room for every form, and where it has a form, into one that is too small.

@@ -38,11 +38,8 @@ fn run_case(rt: &impl Print, line: &[u8]) -> io::Result<()> {
 
 // The cases of a text, line by line.
 fn run_lines(rt: &impl Print, text: &[u8]) -> io::Result<()> {
-    let mut at = 0;
-    while at < text.len() {
-        let end = cases::line_end(text, at);
-        run_case(rt, &text[at..end])?;
-        at = end + 1;
+    for line in text.split_inclusive(|b| *b == b'\n') {
+        run_case(rt, line.strip_suffix(b"\n").unwrap_or(line))?;
     }
     Ok(())
 }

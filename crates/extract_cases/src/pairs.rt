@@ -16,26 +16,15 @@ const LIST_ROOM: usize = 16384;
 // Writes the answer in one line, and a refusal in a line before it.
 fn write_answer(rt: &impl Print, a: Answer) -> io::Result<()> {
     if a.number != 0 {
-        cases::say(rt, b"refused ", a.number as usize)?;
-        cases::say(rt, b" at ", a.place)?;
-        rt.write_all(b"\n")?;
+        println!(rt; "refused {} at {}", a.number, a.place)?;
     }
-    cases::say(rt, b"records ", a.records)?;
-    cases::say(rt, b" pairs ", a.pairs)?;
-    rt.write_all(b"\n")
+    println!(rt; "records {} pairs {}", a.records, a.pairs)
 }
 
 // Writes the first pairs of a list, each in one line.
 fn write_pairs(rt: &impl Print, list: &[u32], count: usize) -> io::Result<()> {
-    let mut i = 0;
-    while i < count {
-        if list.len() / 2 <= i {
-            return Ok(());
-        }
-        cases::say(rt, b"", slices::cell(list, 2 * i))?;
-        cases::say(rt, b" ", slices::cell(list, 2 * i + 1))?;
-        rt.write_all(b"\n")?;
-        i += 1;
+    for pair in list.chunks_exact(2).take(count) {
+        println!(rt; "{} {}", pair[0], pair[1])?;
     }
     Ok(())
 }
@@ -44,18 +33,12 @@ fn write_pairs(rt: &impl Print, list: &[u32], count: usize) -> io::Result<()> {
 fn twice(count: usize) -> usize
     ensures { result ≤ 16384 }
 {
-    if PAIRS < count {
-        return LIST_ROOM;
-    }
-    2 * count
+    2 * count.min(PAIRS)
 }
 
 // Writes the pairs of an accepted list, and whether the numbers after them are no longer marks.
 fn write_list(rt: &impl Print, list: &[u32], a: Answer) -> io::Result<()> {
-    let mut count = 0;
-    if a.number == 0 {
-        count = a.pairs;
-    }
+    let count = if a.number == 0 { a.pairs } else { 0 };
     write_pairs(rt, list, count)?;
     if cases::changed(list, twice(count), MARK) {
         rt.write_all(b"changed\n")?;
@@ -89,11 +72,7 @@ fn list_into(rt: &impl Print, doc: &[u8], room: usize) -> io::Result<Answer>
 fn too_small(pairs: usize) -> usize
     ensures { result ≤ 16384 }
 {
-    let n = twice(pairs);
-    if n == 0 {
-        return 0;
-    }
-    n - 1
+    twice(pairs).saturating_sub(1)
 }
 
 // Lists a document into a list of full size, and where it has pairs, into one that is too small.

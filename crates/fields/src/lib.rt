@@ -5,137 +5,101 @@
 ghost use Rattle.std.specs.Prelude.{◌≡◌, ◌<◌, length};
 ghost use Rattle.fields.specs.Fields.{name_at, qname_at, header_at};
 ghost use Rattle.fields.specs.Bounds.{NameWithin, QnameWithin, HeaderWithin};
-ghost use Rattle.fields.specs.Faults.{Judges, refused_by};
+ghost use Rattle.fields.specs.Faults.{byte_judged};
 
-use number::Number;
-use token::{NameNumber, QnameNumber};
+use token::{Fault, NameNumber, QnameNumber, Refusal};
 
+// A reference to a name: its number, and the place after it.
 #[derive(Clone, Copy)]
-pub enum Name {
-    Is { number: NameNumber, next: usize },
-    Refused { number: u32, place: usize },
+pub struct Name {
+    pub number: NameNumber,
+    pub next: usize,
 }
 
+// A reference to a qname: its number, and the place after it.
 #[derive(Clone, Copy)]
-pub enum Qname {
-    Is { number: QnameNumber, next: usize },
-    Refused { number: u32, place: usize },
+pub struct Qname {
+    pub number: QnameNumber,
+    pub next: usize,
 }
 
+// A header: its version, and the place after it.
 #[derive(Clone, Copy)]
-pub enum Header {
-    Is { version: usize, next: usize },
-    Refused { number: u32, place: usize },
+pub struct Header {
+    pub version: usize,
+    pub next: usize,
 }
 
 // The name's number at a place, in a document that has `known` names: 0 is the empty text.
-pub fn name_at(doc: &[u8], at: usize, known: usize) -> Name
+#[tactic(auto, using(sequences::proofs::Tests::tests), unfolding(crate::specs::Fields::name_at))]
+pub fn name_at(doc: &[u8], at: usize, known: usize) -> Result<Name, Refusal>
     ensures { (result ≡ name_at known doc.now at) × NameWithin (length doc.now) at known result }
 {
-    match number::read(doc, at, token::MB32) {
-        Number::Refused { number, place } => Name::Refused { number, place },
-        Number::Is { value, next } => {
-            if value <= known {
-                Name::Is {
-                    number: NameNumber(value),
-                    next,
-                }
-            } else {
-                Name::Refused {
-                    number: token::NOT_DEFINED,
-                    place: at,
-                }
-            }
-        }
+    let name = number::read(doc, at, token::MB32)?;
+    if name.value <= known {
+        Ok(Name {
+            number: NameNumber(name.value),
+            next: name.next,
+        })
+    } else {
+        Err(Refusal {
+            fault: Fault::NotDefined,
+            place: at,
+        })
     }
 }
 
 // The qname's number at a place, in a document that has `known` qnames: from 1.
-pub fn qname_at(doc: &[u8], at: usize, known: usize) -> Qname
+#[tactic(auto, using(sequences::proofs::Tests::tests), unfolding(crate::specs::Fields::qname_at))]
+pub fn qname_at(doc: &[u8], at: usize, known: usize) -> Result<Qname, Refusal>
     ensures { (result ≡ qname_at known doc.now at) × QnameWithin (length doc.now) at known result }
 {
-    match number::read(doc, at, token::MB32) {
-        Number::Refused { number, place } => Qname::Refused { number, place },
-        Number::Is { value, next } => {
-            if value == 0 {
-                return Qname::Refused {
-                    number: token::NOT_DEFINED,
-                    place: at,
-                };
-            }
-            if value <= known {
-                Qname::Is {
-                    number: QnameNumber(value),
-                    next,
-                }
-            } else {
-                Qname::Refused {
-                    number: token::NOT_DEFINED,
-                    place: at,
-                }
-            }
-        }
+    let qname = number::read(doc, at, token::MB32)?;
+    if qname.value != 0 && qname.value <= known {
+        Ok(Qname {
+            number: QnameNumber(qname.value),
+            next: qname.next,
+        })
+    } else {
+        Err(Refusal {
+            fault: Fault::NotDefined,
+            place: at,
+        })
     }
 }
 
-// The answer number for the byte at a place that must lie from `first` to `last`: 0 where it does.
-fn fault(doc: &[u8], at: usize, first: u8, last: u8) -> u32
-    ensures { Judges doc.now at first last result }
+// That the byte at a place lies from `first` to `last`.
+#[tactic(auto, using(sequences::proofs::Tests::tests), unfolding(crate::specs::Faults::byte_judged))]
+fn byte_within(doc: &[u8], at: usize, first: u8, last: u8) -> Result<(), Refusal>
+    ensures { result ≡ byte_judged doc.now at first last }
 {
     if doc.len() <= at {
-        return token::MISSING;
-    }
-    if doc[at] < first {
-        return token::BAD_HEADER;
-    }
-    if last < doc[at] {
-        return token::BAD_HEADER;
-    }
-    token::ACCEPTED
-}
-
-fn refused(doc: &[u8], number: u32, at: usize) -> Header
-    ensures { result ≡ refused_by (length doc.now) number at }
-{
-    if number == token::MISSING {
-        Header::Refused {
-            number: token::MISSING,
+        return Err(Refusal {
+            fault: Fault::Missing,
             place: doc.len(),
-        }
+        });
+    }
+    if first <= doc[at] && doc[at] <= last {
+        Ok(())
     } else {
-        Header::Refused {
-            number: token::BAD_HEADER,
+        Err(Refusal {
+            fault: Fault::BadHeader,
             place: at,
-        }
+        })
     }
 }
 
 // The header at a place: its version and the place after it.
-pub fn header_at(doc: &[u8], at: usize) -> Header
+pub fn header_at(doc: &[u8], at: usize) -> Result<Header, Refusal>
     ensures { (result ≡ header_at doc.now at) × HeaderWithin (length doc.now) at result }
 {
-    let a = fault(doc, at, 0xDF, 0xDF);
-    if a != 0 {
-        return refused(doc, a, at);
-    }
-    let b = fault(doc, at + 1, 0xFF, 0xFF);
-    if b != 0 {
-        return refused(doc, b, at + 1);
-    }
-    let c = fault(doc, at + 2, 1, 2);
-    if c != 0 {
-        return refused(doc, c, at + 2);
-    }
-    let d = fault(doc, at + 3, 0xB0, 0xB0);
-    if d != 0 {
-        return refused(doc, d, at + 3);
-    }
-    let e = fault(doc, at + 4, 0x04, 0x04);
-    if e != 0 {
-        return refused(doc, e, at + 4);
-    }
-    Header::Is {
-        version: doc[at + 2] as usize,
+    byte_within(doc, at, 0xDF, 0xDF)?;
+    byte_within(doc, at + 1, 0xFF, 0xFF)?;
+    byte_within(doc, at + 2, 1, 2)?;
+    byte_within(doc, at + 3, 0xB0, 0xB0)?;
+    byte_within(doc, at + 4, 0x04, 0x04)?;
+    Ok(Header {
+        version: usize::from(doc[at + 2]),
         next: at + 5,
-    }
+    })
 }

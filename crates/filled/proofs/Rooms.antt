@@ -27,7 +27,7 @@ one_more l a {n} h = simp length-append (omega arith)
 
 -- a step that adds a row had room for it
 fits_step : (size : ℕ) (room : Room) (s : State) (x : Step) → Goes x → Fine size (view s) room x → Fits room s → Fits room (apply s x)
-fits_step size room s (step.Stop number place) g f i = absurd g
+fits_step size room s (step.End place) g f i = absurd g
 fits_step size room s (step.Name place units next) g f i =
     record { names = one_more s.names _ f.3; qnames = i.qnames; events = i.events }
 fits_step size room s (step.Qname uri prefix local next) g f i =

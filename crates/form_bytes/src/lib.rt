@@ -24,7 +24,7 @@ fn put_counted(
     ensures { Put out.old out.new at result (shortest count ++ part doc.now place size) }
 {
     let p = form_output::put_number(out, at, count);
-    form_output::lay(doc, place, size, out, p)
+    form_output::put_part(doc, place, size, out, p)
 }
 
 // A text after its length in units.

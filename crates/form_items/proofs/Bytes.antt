@@ -9,10 +9,11 @@ use Rattle.sequences.proofs.Overlay.{part_length}
 use Rattle.token.specs.Tokens.{shape_of}
 use Rattle.token.specs.declared.Shape.{Shape}
 use Rattle.number.specs.Number.{shortest}
-use Rattle.value.specs.Fields.{text_at}
+use Rattle.value.specs.Fields.{text, text_at}
 use Rattle.value.specs.Bounds.{Lies}
 use Rattle.value.specs.declared.Text as texts
-use Rattle.value.specs.declared.Text.TheVariants as text
+use Rattle.std.specs.Prelude.{Result, Ok, Err}
+use Rattle.token.specs.declared.Refusal.{Refusal}
 use Rattle.machine.specs.Machine.{data_in}
 use Rattle.machine.specs.Tables.{NamesInside}
 use Rattle.form.specs.Canonical.{with_units, length_of}
@@ -91,14 +92,14 @@ module _ (doc names slots : List ℕ) (rows base class start : ℕ) (t : NamesIn
       z' : Put m' m'' (p + 1) y (shortest number)
       z' = rw number_is at z
 
-      text_is : {r : texts.Text} {place units : ℕ} → r ≡ text_at 5 doc start → r ≡ text.Is place units → data_in doc (text_at 5 doc start) ≡ part doc place (2 * units)
+      text_is : {r : Result texts.Text Refusal} {place units : ℕ} → r ≡ text_at 5 doc start → r ≡ Ok (text place units) → data_in doc (text_at 5 doc start) ≡ part doc place (2 * units)
       text_is e f = rw (← e, f)
 
-      pub pi_text : {r : texts.Text} {place units : ℕ} → r ≡ text_at 5 doc start → r ≡ text.Is place units → Lies (length doc) start r
+      pub pi_text : {r : Result texts.Text Refusal} {place units : ℕ} → r ≡ text_at 5 doc start → r ≡ Ok (text place units) → Lies (length doc) start r
           → Fits (length out) at (length (pi_bytes (tables doc names [] [] []) slots base class start))
           → (place + 2 * units ≤ length doc) × (length doc ≤ 65536) × (y ≤ 1099511627776) × Fits (length m'') y (length (with_units (part doc place (2 * units))))
       pi_text {r} {place} {units} e f l h =
-          let w = subst (λ (a : texts.Text). Lies (length doc) start a) f l in
+          let w = subst (λ (a : Result texts.Text Refusal). Lies (length doc) start a) f l in
           let n = pi_near in
           let few = shortest_few k in
           let past = z.past in
@@ -107,7 +108,7 @@ module _ (doc names slots : List ℕ) (rows base class start : ℕ) (t : NamesIn
           let c = fits_next (with_units (data_in doc (text_at 5 doc start))) z' b in
           (w.1, t.short, omega arith, rw (text_is e f) at c)
 
-      pub pi_put : {r : texts.Text} {place units : ℕ} {e : List ℕ} {v : ℕ} → r ≡ text_at 5 doc start → r ≡ text.Is place units
+      pub pi_put : {r : Result texts.Text Refusal} {place units : ℕ} {e : List ℕ} {v : ℕ} → r ≡ text_at 5 doc start → r ≡ Ok (text place units)
           → Put m'' e y v (with_units (part doc place (2 * units)))
           → Put out e at v (pi_bytes (tables doc names [] [] []) slots base class start) × (s ≡ slots_after slots base class)
       pi_put {e = e} {v = v} e₁ f u =
@@ -115,8 +116,8 @@ module _ (doc names slots : List ℕ) (rows base class start : ℕ) (t : NamesIn
           (rw pi_is (put_then x (byte_then q (put_then z' u'))), i)
 
 -- a text that is there is not refused
-pub not_refused : (doc : List ℕ) (start : ℕ) {r : texts.Text} {n p : ℕ} → TextThere doc start → r ≡ text_at 5 doc start → r ≡ text.Refused n p → ⊥
-not_refused doc start {r} {n} {p} t e h = apart (sym t.is ∙ (sym e ∙ h))
+pub not_refused : (doc : List ℕ) (start : ℕ) {r : Result texts.Text Refusal} {f : Refusal} → TextThere doc start → r ≡ text_at 5 doc start → r ≡ Err f → ⊥
+not_refused doc start {r} {f} t e h = apart (sym t.is ∙ (sym e ∙ h))
   where
-    apart : {a b : ℕ} → text.Is a b ≡ text.Refused n p → ⊥
+    apart : {a : texts.Text} → ◌≡◌ {A = Result texts.Text Refusal} (Ok a) (Err f) → ⊥
     apart i = let z : ◌≡◌ {A = ℕ} 0 1 = cc in omega arith

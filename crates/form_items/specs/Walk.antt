@@ -1,13 +1,12 @@
 -- Serves the code. What the walk over the rows of events does at each of them: the bytes that it writes, and the slots that it
 -- keeps.
-use Rattle.std.specs.Prelude.{ℕ, zero, suc, ◌+◌, ◌-◌, ◌*◌, ◌≤◌, ◌<◌, ◌≡◌, ◌⊎◌, List, [], ◌∷◌, ◌++◌, length, get_or}
+use Rattle.std.specs.Prelude.{ℕ, zero, suc, ◌+◌, ◌-◌, ◌*◌, ◌≤◌, ◌<◌, ◌≡◌, ◌⊎◌, List, [], ◌∷◌, ◌++◌, length, get_or, Ok}
 use Rattle.std.proofs.Math.Option.{some}
 use Rattle.sequences.specs.Lists.{part}
 use Rattle.sequences.specs.Arrays.{Front}
 use Rattle.token.specs.Tokens.{mb32, shape_of, PI_TOKEN, NEST_TOKEN, ENDNEST_TOKEN, qname_width, event_width, name_rows, qname_rows, nested_documents}
 use Rattle.number.specs.Number.{shortest}
-use Rattle.value.specs.Fields.{text_at}
-use Rattle.value.specs.declared.Text.TheVariants as text
+use Rattle.value.specs.Fields.{text, text_at}
 use Rattle.machine.specs.Machine.{event, data_in}
 use Rattle.machine.specs.Balance.{nothing_open, check}
 use Rattle.machine.specs.Tables.{name_rows_in, qname_rows_in, event_rows_in, Filled, NamesInside}
@@ -18,6 +17,7 @@ use Rattle.form_slots.specs.Slots.{slots_after, number_in, parts_at, Cleared, re
 use Rattle.form_names.specs.Naming.{bytes_before, qname_before, names_after}
 use Rattle.form_items.specs.Items.{item_of}
 use Rattle.form_items.specs.declared.Spot.{Spot}
+use Rattle.form_items.specs.declared.Source.{Source}
 use Rattle.form_items.specs.declared.Item.{Item}
 use Rattle.form_items.specs.declared.Item.TheVariants.{Byte, Texted, Pi, Refer, Valued, Nest, Leave}
 use Rattle.classes.specs.Search.{class_at}
@@ -32,6 +32,9 @@ pub record Tables : Type 0 where
 
 abbrev pub tables : List ℕ → List ℕ → List ℕ → List ℕ → List ℕ → Tables
 tables doc names qnames classes qclasses = record { doc = doc; names = names; qnames = qnames; classes = classes; qclasses = qclasses }
+
+abbrev pub tables_of : Source → Tables
+tables_of s = tables s.texts.doc.now s.texts.names.now s.qnames.now s.classes.now s.qclasses.now
 
 -- the row before: rows are numbered from 1, and stand in a table from 0 on
 abbrev pub before : ℕ → ℕ
@@ -131,7 +134,7 @@ pub record Ready (t : Tables) (rows qrows : ℕ) : Type 0 where
 pub record TextThere (doc : List ℕ) (start : ℕ) : Type 0 where
   pub place : ℕ
   pub units : ℕ
-  pub is : text_at mb32 doc start ≡ text.Is place units
+  pub is : text_at mb32 doc start ≡ Ok (text place units)
 
 abbrev pub ItemFits : Tables → ℕ → ℕ → ℕ → Item → Type 0
 ItemFits t rows qrows depth (Byte value) = value < 256

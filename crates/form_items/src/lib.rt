@@ -4,17 +4,30 @@
 ghost use Rattle.std.specs.Prelude.{◌≡◌, ◌+◌, ◌*◌, ◌≤◌, ◌<◌, length, get_or, [], ◌∷◌, ◌++◌};
 ghost use Rattle.token.specs.Entries.{Listed};
 ghost use Rattle.machine.specs.Machine.{event};
-ghost use Rattle.machine.specs.Tables.{NamesInside};
+ghost use Rattle.form_names.specs.Naming.{TextsInside};
 ghost use Rattle.form_items.specs.Items.{item_by, item_of};
-ghost use Rattle.form_items.specs.Walk.{nested_after, tables, base_at, bytes_for, Ready, ItemFits, pi_bytes, Wrote, TextThere};
+ghost use Rattle.form_items.specs.Walk.{nested_after, tables, tables_of, base_at, bytes_for, Ready, ItemFits, pi_bytes, Wrote, TextThere};
 ghost use Rattle.form.specs.Canonical.{with_units, length_of, header_of};
 ghost use Rattle.form_output.specs.Output.{Fits, Put, far_names, far_qnames, far_items};
 ghost use Rattle.form_slots.specs.Slots.{Low, slots_after, Trail, Trails, Cleared, slot_count, region, low_names, low_items};
 ghost use Rattle.sequences.specs.Lists.{part};
 ghost use Rattle.token.specs.Tokens.{shape_of, NEST_TOKEN, event_width, longest, event_rows, nested_documents};
 
+use form_names::Texts;
+use form_slots::Defined;
 use token::{Class, NameNumber, QnameNumber};
 use value::Text;
+
+// What the walk reads: the table of tokens, a document with its rows of names and of qnames, and the classes of these rows.
+#[derive(Drop)]
+pub struct Source<'a> {
+    pub table: &'a [u16; 256],
+    pub texts: Texts<'a>,
+    pub qnames: &'a [u32],
+    pub qrows: usize,
+    pub classes: &'a [u32; token::NAME_ROWS],
+    pub qclasses: &'a [u32; token::QNAME_ROWS],
+}
 
 // What row i of the events asks.
 pub fn look(table: &[u16; 256], events: &[u32], i: usize) -> Item
@@ -28,7 +41,7 @@ pub fn look(table: &[u16; 256], events: &[u32], i: usize) -> Item
     item_by(token::class_at(table, code as u8), code as u8, a, b)
 }
 
-// The item of a token's class.
+// The item of a token's class. XSD-QNAME is told apart within its class: a guard would need a law over all classes.
 fn item_by(class: Class, token: u8, a: usize, b: usize) -> Item
     ensures { result ≡ item_by class (event token 0 a b) }
 {
@@ -82,18 +95,10 @@ pub fn depth_after(item: Item, depth: usize) -> usize
 {
     match item {
         Item::Byte(_) => depth,
-        Item::Texted {
-            token: _,
-            place: _,
-            units: _,
-        } => depth,
-        Item::Pi { row: _, start: _ } => depth,
-        Item::Refer { token: _, row: _ } => depth,
-        Item::Valued {
-            token: _,
-            place: _,
-            size: _,
-        } => depth,
+        Item::Texted { .. } => depth,
+        Item::Pi { .. } => depth,
+        Item::Refer { .. } => depth,
+        Item::Valued { .. } => depth,
         Item::Nest(_) => depth + 1,
         Item::Leave => depth - 1,
     }
@@ -153,126 +158,94 @@ fn put_texted(doc: &[u8], out: &mut [u8], at: usize, token: u8, place: usize, un
 }
 
 fn put_valued(
-    table: &[u16; 256],
-    doc: &[u8],
+    source: &Source,
     out: &mut [u8],
     at: usize,
     token: u8,
     place: usize,
     size: usize,
 ) -> usize
-    requires { Listed table.now × (place + size ≤ length doc.now) × (length doc.now ≤ longest) × (at ≤ far_names)
-        × Fits (length out.old) at (length (token ∷ (length_of (shape_of token) (part doc.now place size) ++ part doc.now place size))) }
-    ensures { Put out.old out.new at result
-        (token ∷ (length_of (shape_of token) (part doc.now place size) ++ part doc.now place size)) }
+    requires { let doc = source.now.texts.doc.now in Listed source.now.table.now × (place + size ≤ length doc) × (length doc ≤ longest) × (at ≤ far_names)
+        × Fits (length out.old) at (length (token ∷ (length_of (shape_of token) (part doc place size) ++ part doc place size))) }
+    ensures { let doc = source.now.texts.doc.now in Put out.old out.new at result
+        (token ∷ (length_of (shape_of token) (part doc place size) ++ part doc place size)) }
 {
     form_output::put(out, at, token);
-    let shape = token::shape_at(table, token);
-    form_bytes::put_value(doc, shape, place, size, out, at + 1)
+    let shape = token::shape_at(source.table, token);
+    form_bytes::put_value(source.texts.doc, shape, place, size, out, at + 1)
 }
 
 // A PI: its target's definition where it is needed, its target's number and its text.
 fn put_pi(
-    doc: &[u8],
-    names: &[u32],
+    texts: &Texts,
     out: &mut [u8],
-    slots: &mut [u16; form_slots::SLOTS],
-    rows: usize,
     at: usize,
+    slots: &mut [u16; form_slots::SLOTS],
     base: usize,
     class: NameNumber,
     start: usize,
 ) -> usize
-    requires { NamesInside doc.now names.now rows × (class.0 ≤ rows) × (base + region ≤ slot_count) × Low low_items slots.old × (at ≤ far_qnames)
-        × TextThere doc.now start
-        × Fits (length out.old) at (length (pi_bytes (tables doc.now names.now [] [] []) slots.old base class.0 start)) }
-    ensures { Put out.old out.new at result (pi_bytes (tables doc.now names.now [] [] []) slots.old base class.0 start)
+    requires { TextsInside texts.now × (class.0 ≤ texts.now.rows) × (base + region ≤ slot_count) × Low low_items slots.old × (at ≤ far_qnames)
+        × TextThere texts.now.doc.now start
+        × Fits (length out.old) at (length (pi_bytes (tables texts.now.doc.now texts.now.names.now [] [] []) slots.old base class.0 start)) }
+    ensures { Put out.old out.new at result (pi_bytes (tables texts.now.doc.now texts.now.names.now [] [] []) slots.old base class.0 start)
         × (slots.new ≡ slots_after slots.old base class.0) }
 {
-    let p = form_names::define_name(doc, names, out, slots, rows, at, base, class);
+    let p = form_names::define_name(texts, out, at, slots, base, class);
     form_output::put(out, p, token::PI_TOKEN);
     let x = form_names::put_name_number(out, p + 1, form_slots::name_number(slots, base, class));
-    match value::text_at(doc, start, token::MB32) {
-        Text::Is { place, units } => form_bytes::put_text(doc, place, units, out, x),
-        Text::Refused {
-            number: _,
-            place: _,
-        } => x,
+    match value::text_at(texts.doc, start, token::MB32) {
+        Ok(Text { place, units }) => form_bytes::put_text(texts.doc, place, units, out, x),
+        Err(_) => x,
     }
 }
 
 // A nested document begins: its header, and nothing defined.
-fn put_nest(
-    out: &mut [u8],
-    slots: &mut [u16; form_slots::SLOTS],
-    qslots: &mut [u16; form_slots::SLOTS],
-    at: usize,
-    base: usize,
-    version: u8,
-) -> usize
-    requires { (at ≤ far_names) × (base + region ≤ slot_count) × Low low_names slots.old × Low low_names qslots.old × Trail slots.old base × Trail qslots.old base }
+fn put_nest(out: &mut [u8], at: usize, defined: &mut Defined, base: usize, version: u8) -> usize
+    requires { (at ≤ far_names) × (base + region ≤ slot_count) × Low low_names defined.old.names × Low low_names defined.old.qnames
+        × Trail defined.old.names base × Trail defined.old.qnames base }
     ensures { Put out.old out.new at result (NEST_TOKEN ∷ header_of version)
-        × Cleared slots.old slots.new base × Cleared qslots.old qslots.new base }
+        × Cleared defined.old.names defined.new.names base × Cleared defined.old.qnames defined.new.qnames base }
 {
-    form_slots::clear(slots, base);
-    form_slots::clear(qslots, base);
+    form_slots::clear(&mut defined.names, base);
+    form_slots::clear(&mut defined.qnames, base);
     form_output::put(out, at, token::NEST_TOKEN);
     form_bytes::put_header(out, at + 1, version)
 }
 
 // Writes an item, and keeps what it defines.
-pub fn write(
-    table: &[u16; 256],
-    doc: &[u8],
-    names: &[u32],
-    qnames: &[u32],
-    classes: &[u32; token::NAME_ROWS],
-    qclasses: &[u32; token::QNAME_ROWS],
-    out: &mut [u8],
-    slots: &mut [u16; form_slots::SLOTS],
-    qslots: &mut [u16; form_slots::SLOTS],
-    rows: usize,
-    qrows: usize,
-    w: Spot,
-    item: Item,
-) -> usize
-    requires { Listed table.now × Ready (tables doc.now names.now qnames.now classes.now qclasses.now) rows qrows
-        × ItemFits (tables doc.now names.now qnames.now classes.now qclasses.now) rows qrows w.depth item
-        × Low low_items slots.old × Low low_items qslots.old × (w.depth ≤ nested_documents) × (w.at ≤ far_items)
-        × Fits (length out.old) w.at (length (bytes_for (tables doc.now names.now qnames.now classes.now qclasses.now) slots.old qslots.old (base_at w.depth) item))
-        × Trails slots.old × Trails qslots.old }
-    ensures { Wrote (tables doc.now names.now qnames.now classes.now qclasses.now)
-        slots.old qslots.old out.old slots.new qslots.new out.new w item result }
+pub fn write(source: &Source, out: &mut [u8], defined: &mut Defined, w: Spot, item: Item) -> usize
+    requires { Listed source.now.table.now × Ready (tables_of source.now) source.now.texts.rows source.now.qrows
+        × ItemFits (tables_of source.now) source.now.texts.rows source.now.qrows w.depth item
+        × Low low_items defined.old.names × Low low_items defined.old.qnames × (w.depth ≤ nested_documents) × (w.at ≤ far_items)
+        × Fits (length out.old) w.at (length (bytes_for (tables_of source.now) defined.old.names defined.old.qnames (base_at w.depth) item))
+        × Trails defined.old.names × Trails defined.old.qnames }
+    ensures { Wrote (tables_of source.now)
+        defined.old.names defined.old.qnames out.old defined.new.names defined.new.qnames out.new w item result }
 {
     let at = w.at;
     let base = form_slots::REGION * w.depth;
+    let texts = &source.texts;
     match item {
         Item::Byte(value) => put_byte(out, at, value as u8),
         Item::Texted {
             token,
             place,
             units,
-        } => put_texted(doc, out, at, token, place, units),
+        } => put_texted(texts.doc, out, at, token, place, units),
         Item::Pi { row, start } => {
-            let class = NameNumber(classes::class_at(classes, row) as usize);
-            put_pi(doc, names, out, slots, rows, at, base, class, start)
+            let class = NameNumber(classes::class_at(source.classes, row) as usize);
+            put_pi(texts, out, at, &mut defined.names, base, class, start)
         }
         Item::Refer { token, row } => {
-            let q = form_slots::parts_at(qnames, classes, row - 1);
-            let class = QnameNumber(classes::class_at(qclasses, row) as usize);
-            form_names::refer(
-                doc, names, out, slots, qslots, rows, at, base, token, q, class,
-            )
+            let q = form_slots::parts_at(source.qnames, source.classes, row - 1);
+            let class = QnameNumber(classes::class_at(source.qclasses, row) as usize);
+            form_names::refer(texts, out, at, defined, base, token, q, class)
         }
-        Item::Valued { token, place, size } => put_valued(table, doc, out, at, token, place, size),
-        Item::Nest(version) => put_nest(
-            out,
-            slots,
-            qslots,
-            at,
-            base + form_slots::REGION,
-            version as u8,
-        ),
+        Item::Valued { token, place, size } => put_valued(source, out, at, token, place, size),
+        Item::Nest(version) => {
+            put_nest(out, at, defined, base + form_slots::REGION, version as u8)
+        }
         Item::Leave => put_byte(out, at, token::ENDNEST_TOKEN),
     }
 }

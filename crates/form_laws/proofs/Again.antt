@@ -12,8 +12,8 @@ use Rattle.sequences.proofs.Tests.{and_left, and_right}
 use Rattle.token.specs.Tokens.{longest, class_of}
 use Rattle.token.specs.declared.Class.{Class}
 use Rattle.token.specs.declared.Class.TheVariants as class
-use Rattle.value.specs.Fields.{text_at}
-use Rattle.value.specs.declared.Text.TheVariants as text
+use Rattle.value.specs.Fields.{text, text_at}
+use Rattle.std.specs.Prelude.{Ok}
 use Rattle.modes.specs.Modes.{content, in_attributes, is, allowed, after_misc, after_value}
 use Rattle.scan.specs.Steps.{text_step, class_step}
 use Rattle.modes.specs.declared.Mode.{Mode}
@@ -69,7 +69,7 @@ no_scope {os = o ∷ os} e = absurd (let q : ⊥ = omega arith in q)
 
 -- the event rows that a step adds
 abbrev news : State → Step → List EventRow
-news s (step.Stop number place) = []
+news s (step.End place) = []
 news s (step.Name place units next) = []
 news s (step.Qname uri prefix local next) = []
 news s (step.Skip next) = []
@@ -87,7 +87,7 @@ returned_rows s [] next = sym (append-nil s.events)
 returned_rows s (o ∷ os) next = refl
 
 news_are : (s : State) (x : Step) → (apply s x).events ≡ s.events ++ news s x
-news_are s (step.Stop number place) = sym (append-nil s.events)
+news_are s (step.End place) = sym (append-nil s.events)
 news_are s (step.Name place units next) = sym (append-nil s.events)
 news_are s (step.Qname uri prefix local next) = sym (append-nil s.events)
 news_are s (step.Skip next) = sym (append-nil s.events)
@@ -163,7 +163,7 @@ module _ (d : List ℕ) (d' : List ℕ) (room : Room) (u : State) (fit : (r : �
 
   -- the token of a class is followed by the same token
   on_class : {s : State} {rs : List EventRow} (k : ℕ) (c : Class) {place units : ℕ} {m : Mode} (to : Mode → Mode) → Stands d (view s) c → get_or d s.at 0 ≡ k
-      → class_of k ≡ c → TextTold k → text_at 5 d (s.at + 1) ≡ text.Is place units → ((m' : Mode) → Earlier s.mode m' → Earlier m (to m'))
+      → class_of k ≡ c → TextTold k → text_at 5 d (s.at + 1) ≡ Ok (text place units) → ((m' : Mode) → Earlier s.mode m' → Earlier m (to m'))
       → ((m' : Mode) → Earlier s.mode m' → (p : Point) (e : ℕ) (os : List Scope) → allowed c (look all_open all_nested d' room (state_of p m' e os)) ≡ true)
       → ((m' : Mode) (p : Point) (e : ℕ) (os : List Scope)
       → text_step d' (look all_open all_nested d' room (state_of p m' e os)) room k (to m') ≡ class_step c d' (look all_open all_nested d' room (state_of p m' e os)) room k)
@@ -173,7 +173,7 @@ module _ (d : List ℕ) (d' : List ℕ) (room : Room) (u : State) (fit : (r : �
       (λ s' q o x. texted all_open all_nested d' room s'.here.elements s'.outer k c s'.mode (to s'.mode) ((alike_earlier o).declarations ∙ t.outside) j
       (λ p. may s'.mode o p s'.here.elements s'.outer) (λ p. steps s'.mode p s'.here.elements s'.outer) x) go
 
-  on_texted : {s : State} {rs : List EventRow} {c : Class} {place units : ℕ} {m : Mode} → Stands d (view s) c → TextLeads s.mode c m → text_at 5 d (s.at + 1) ≡ text.Is place units
+  on_texted : {s : State} {rs : List EventRow} {c : Class} {place units : ℕ} {m : Mode} → Stands d (view s) c → TextLeads s.mode c m → text_at 5 d (s.at + 1) ≡ Ok (text place units)
       → Onward (machine.onward s (event (get_or d s.at 0) s.at place units) m s.here (place + 2 * units)) rs → Onward s (event (get_or d s.at 0) s.at place units ∷ rs)
   unfolding class_of class_step event_of
   on_texted {s} t found.xml_decl e go =
@@ -207,9 +207,8 @@ module _ (d : List ℕ) (d' : List ℕ) (room : Room) (u : State) (fit : (r : �
 
   -- ---- one step
 
-  on_step : (s : State) {x : Step} {rs : List EventRow} → Goes x → Found d (view s) room x → Extends s u → Extends (apply s x) u → Onward (apply s x) rs → Onward s (news s x ++ rs)
+  on_step : (s : State) {x : Step} {rs : List EventRow} → Goes x → Found d (view s) room (Ok x) → Extends s u → Extends (apply s x) u → Onward (apply s x) rs → Onward s (news s x ++ rs)
   unfolding class_of event_of
-  on_step s g (found.stop n) x y go = absurd g
   on_step s g (found.ended l e c n) x y go = absurd g
   on_step s g (found.name_def {place = place} {units = units} t e n) x y go = on_name d N Q d' room fit E place units go
   on_step s g (found.qname_def {uri = uri} {prefix = prefix} {local = local} {p = p} {q = q} t a b c n) x y go =

@@ -10,8 +10,8 @@ use lib.ListN.{length, drop, length-append}
 use Rattle.sequences.specs.Lists.{part, In}
 use Rattle.sequences.proofs.Overlay.{part_length}
 use Rattle.number.specs.Number.{shortest}
-use Rattle.value.specs.Fields.{text_at}
-use Rattle.value.specs.declared.Text.TheVariants as text
+use Rattle.value.specs.Fields.{text, text_at}
+use Rattle.std.specs.Prelude.{Ok}
 use Rattle.value.proofs.Fields.{text_lies, is_lies}
 use Rattle.modes.specs.Modes.{content}
 use Rattle.modes.specs.declared.Mode.{Mode}
@@ -32,7 +32,7 @@ use Rattle.form_laws.proofs.Scopes.{Onto, onto_on, row_triple, qname_says, half_
 use Rattle.form_laws.proofs.Define.{Ghost, Few, Walk, Sim, with_left, Metas, metas_alike, less, Ready, define_all}
 
 -- a text that reading found
-pub text_fit : (d : List ℕ) (p : ℕ) {place units : ℕ} → text_at 5 d p ≡ text.Is place units → Fit (part d place (2 * units))
+pub text_fit : (d : List ℕ) (p : ℕ) {place units : ℕ} → text_at 5 d p ≡ Ok (text place units) → Fit (part d place (2 * units))
 text_fit d p {place} {units} e =
     let l = is_lies (length d) p e (text_lies 5 d p) in
     let n = part_length d place (2 * units) l.1 in
@@ -141,7 +141,7 @@ module _ (d : List ℕ) (N : List NameRow) (Q : List QnameRow) (d' : List ℕ) (
 
   -- ---- a token with a text
 
-  pub on_text : {s : State} {rs : List EventRow} (k : ℕ) {token place units : ℕ} {m : Mode} (to : Mode → Mode) → token ≡ k → TextTold k → text_at 5 d (s.at + 1) ≡ text.Is place units
+  pub on_text : {s : State} {rs : List EventRow} (k : ℕ) {token place units : ℕ} {m : Mode} (to : Mode → Mode) → token ≡ k → TextTold k → text_at 5 d (s.at + 1) ≡ Ok (text place units)
       → ((m' : Mode) → Earlier s.mode m' → Earlier m (to m'))
       → ((s' : State) (q : Point) → Earlier s.mode s'.mode → TextToken d' k (point_of s') q → Walk d N Q d' room fit s' (state_of q (to s'.mode) s'.here.elements s'.outer))
       → Next (machine.onward s (event token s.at place units) m s.here (place + 2 * units)) rs → Next s (event token s.at place units ∷ rs)

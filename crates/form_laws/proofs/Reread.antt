@@ -9,6 +9,7 @@ use borrow.Author.Tests.{le-ltb}
 use Rattle.sequences.specs.Lists.{In}
 use Rattle.sequences.specs.Arrays.{Every, first}
 use Rattle.sequences.proofs.Overlay.{part_length}
+use Rattle.std.specs.Prelude.{Ok}
 use Rattle.token.specs.Tokens.{accepted, longest, name_rows, qname_rows}
 use Rattle.modes.specs.Modes.{content}
 use Rattle.scan.specs.Steps.{end_step, step_at}
@@ -16,6 +17,7 @@ use Rattle.scan.specs.declared.Room.{Room}
 use Rattle.scan.specs.declared.Step.TheVariants as step
 use Rattle.machine.specs.Machine.{NameRow, EventRow, State, view, started, reading, text_in, name_text, event_of, events_of}
 use Rattle.machine.specs.Facts.{NameFits}
+use Rattle.machine.proofs.Goes.{ended, answer_ended}
 use Rattle.machine.proofs.Trace as traces
 use Rattle.machine.proofs.Trace.{Trace, Stopped, stops_reading}
 use Rattle.machine.proofs.Readings.{accepted_ends}
@@ -59,7 +61,7 @@ as_path (traces.by x g e t) = steps.by x g e (as_path t)
 
 -- at the end of the document, nothing open
 end_stops : (d : List ℕ) (room : Room) (s : State) → length d ≤ s.at → s.outer ≡ [] → s.here.elements ≡ 0 → content s.mode ≡ true
-    → step.Stop accepted (length d) ≡ step_at d (view s) room
+    → Ok (step.End (length d)) ≡ step_at d (view s) room
 unfolding step_at end_step
 end_stops d room s l o e c = rw (le-ltb s.at (length d) l, o, e, c)
 
@@ -76,14 +78,14 @@ module _ (d f : List ℕ) (room : Room) (n : room.names ≤ name_rows) (q : room
     pub qnames_few : length (reading f room).final.qnames ≤ length (reading d room).final.qnames
 
   -- reading ends where a walk of it stops
-  ended : {version : ℕ} → Stopped f room version (started version 5) (reading f room) → (a : State)
-      → Path all_open all_nested f room (started version 5) a → step.Stop accepted (length f) ≡ step_at f (view a) room
+  ended_fact : {version : ℕ} → Stopped f room version (started version 5) (reading f room) → (a : State)
+      → Path all_open all_nested f room (started version 5) a → Ok (step.End (length f)) ≡ step_at f (view a) room
       → ((reading f room).final ≡ a) × ((reading f room).number ≡ accepted)
-  ended w a p s =
-      let e : (reading f room).final ≡ a = same_end all_open all_nested f room (as_path w.trace) p w.stop s in
-      let z : step.Stop (reading f room).number (reading f room).place ≡ step.Stop accepted (length f) =
+  ended_fact w a p s =
+      let e : (reading f room).final ≡ a = same_end all_open all_nested f room (as_path w.trace) p w.halts w.stop ended s in
+      let z : w.last ≡ Ok (step.End (length f)) =
       w.stop ∙ ap (λ (x : State). step_at f (view x) room) e ∙ sym s in
-      (e, cc)
+      (e, (answer_ended w.halts z).0)
 
   pub reread : length f ≤ longest → HeaderBytes f 0 (reading d room).version → drop 5 f ≡ body none_yet (events_read d room) → Reread
   unfolding events_of
@@ -122,7 +124,7 @@ module _ (d f : List ℕ) (room : Room) (n : room.names ≤ name_rows) (q : room
       let ef = D.events_few in
       let fits : Fits room a = record { names = omega arith; qnames = omega arith; events = omega arith } in
       let v = stops_reading f room short (header_derived f h) in
-      let x = ended v a (A.walk.steps fits) (end_stops f room a c.past c.outer_none c.elements_none c.at_root) in
+      let x = ended_fact v a (A.walk.steps fits) (end_stops f room a c.past c.outer_none c.elements_none c.at_root) in
       let rows : (reading f room).final.events ≡ A.rows = ap (λ (s : State). s.events) x.0 ∙ A.events in
       record {
         number_is = x.1;

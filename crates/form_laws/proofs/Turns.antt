@@ -16,8 +16,9 @@ use Rattle.sequences.proofs.Tests.{and_left, and_right}
 use Rattle.token.specs.Tokens.{longest, class_of, shape_of}
 use Rattle.token.specs.declared.Class.{Class}
 use Rattle.number.specs.Number.{shortest}
+use Rattle.value.specs.Fields as values
 use Rattle.value.specs.Fields.{text_at, field_at}
-use Rattle.value.specs.declared.Text.TheVariants as text
+use Rattle.std.specs.Prelude.{Ok}
 use Rattle.value.specs.declared.Field.TheVariants as field
 use Rattle.value.proofs.Fields.{field_inside, payload_inside, payload_lawful, not_qname}
 use Rattle.modes.specs.Modes.{content, in_attributes, in_declaration, allowed, after_metadata, after_misc, after_value}
@@ -68,7 +69,7 @@ leave_rows s (p ∷ os) = event 0xEB s.at 0 0 ∷ []
 
 module _ (d : List ℕ) (N : List NameRow) (Q : List QnameRow) (d' : List ℕ) (room : Room) (fit : (r : ℕ) → Fit (name_text d N r)) (E : ℕ) where
   pub on_value : {s : State} {rs : List EventRow} {c : Class} {place size : ℕ} → length d ≤ longest → Stands d (view s) c → ValueClass c
-      → field_at (shape_of (get_or d s.at 0)) d s.at ≡ field.Payload place size
+      → field_at (shape_of (get_or d s.at 0)) d s.at ≡ Ok (field.Payload place size)
       → Next d N Q d' room fit E (machine.onward s (event (get_or d s.at 0) s.at place size) (after_value s.mode) s.here (place + size)) rs
       → Next d N Q d' room fit E s (event (get_or d s.at 0) s.at place size ∷ rs)
   on_value {s} {rs} {c} {place} {size} short t k f go s' σ G o S =
@@ -122,7 +123,7 @@ module _ (d : List ℕ) (N : List NameRow) (Q : List QnameRow) (d' : List ℕ) (
   among_row known mine h (suc k) l = text (record { row = get_or known k 0; among = h (get_or known k 0) (in_get_d known k (omega arith)); says = refl })
 
   pub on_pi : {s : State} {rs : List EventRow} {n start place units : ℕ} → Few s → Metas s.mode → content s.mode ≡ true → n ≤ length s.here.names
-      → text_at 5 d start ≡ text.Is place units
+      → text_at 5 d start ≡ Ok (values.text place units)
       → Next d N Q d' room fit E (machine.onward s (event 0xF4 s.at (row_of s.here.names n) start) (after_misc s.mode) s.here (place + 2 * units)) rs
       → Next d N Q d' room fit E s (event 0xF4 s.at (row_of s.here.names n) start ∷ rs)
   unfolding event_of class_of

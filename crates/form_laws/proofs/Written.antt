@@ -9,11 +9,11 @@ use lib.ListN.{length, get_or, drop}
 use borrow.Author.Tests.{leb-true, eqb-true, lt-ltb, le-leb}
 use Rattle.sequences.specs.Lists.{part}
 use Rattle.sequences.proofs.Tests.{cond_if, and_left, and_right}
+use Rattle.std.specs.Prelude.{Ok}
 use Rattle.token.specs.Tokens.{largest, Token, tokens, find, shape_of}
 use Rattle.token.specs.declared.Shape.{Shape}
 use Rattle.token.specs.declared.Shape.TheVariants.{Nothing, Fixed, Text, Blob, CodePage, Decimal, Qname, Stamp, Date, Time, ZonedTime}
-use Rattle.number.specs.Number.{number_at, shortest}
-use Rattle.number.specs.declared.Number.TheVariants as number
+use Rattle.number.specs.Number.{number, number_at, shortest}
 use Rattle.number.proofs.Within.{number_within, is_within}
 use Rattle.number.proofs.Spelling.{shortest_read}
 use Rattle.rules.specs.Rules.{decimal_size, decimal_lawful, time_bytes, time_lawful, zoned_lawful, lawful}
@@ -63,7 +63,7 @@ module _ (d : List ℕ) where
 
   pub record NumberAt (most p n : ℕ) (w : List ℕ) : Type 0 where
     pub next : ℕ
-    pub read : number_at most d p ≡ number.Is n next
+    pub read : number_at most d p ≡ Ok (number n next)
     pub inside : next ≤ length d
     pub after : drop next d ≡ w
 
@@ -113,16 +113,16 @@ module _ (d : List ℕ) where
   -- the payload before the rules on its bytes
   record ExtentAt (h : Shape) (at : ℕ) (p w : List ℕ) : Type 0 where
     place : ℕ
-    read : extent_at h d at ≡ field.Payload place (length p)
+    read : extent_at h d at ≡ Ok (field.Payload place (length p))
     there : Piece d place p w
 
-  needed_at : (at size : ℕ) (p w : List ℕ) → length p ≡ size → at ≤ length d → drop at d ≡ p ++ w → (needed d at size ≡ field.Payload at (length p)) × Piece d at p w
+  needed_at : (at size : ℕ) (p w : List ℕ) → length p ≡ size → at ≤ length d → drop at d ≡ p ++ w → (needed d at size ≡ Ok (field.Payload at (length p))) × Piece d at p w
   unfolding needed
   needed_at at size p w s l e = let x = piece d at p w l e in (rw (← s, le-leb _ _ x.inside), x)
 
   -- a time's precision is its payload's first byte
   time_at : (at more : ℕ) (p w : List ℕ) → leb (get_or p 0 0) 7 ≡ true → length p ≡ 1 + time_bytes (get_or p 0 0) + more → drop (at + 1) d ≡ p ++ w
-      → (time_field d at more ≡ field.Payload (at + 1) (length p)) × Piece d (at + 1) p w
+      → (time_field d at more ≡ Ok (field.Payload (at + 1) (length p))) × Piece d (at + 1) p w
   unfolding time_field
   time_at at more [] w a s e = absurd (let q : ⊥ = omega arith in q)
   time_at at more (y ∷ p) w a s e =
@@ -130,8 +130,8 @@ module _ (d : List ℕ) where
       let n = needed_at (at + 1) (1 + time_bytes y + more) (y ∷ p) w s (omega (arith, b.0.inside)) e in
       (rw (lt-ltb _ _ b.0.inside, b.0.is, a) n.0, n.1)
 
-  text_payload_fact : (most p units next size : ℕ) → number_at most d p ≡ number.Is units next → 2 * units ≡ size → next + size ≤ length d
-      → text_payload (text_at most d p) ≡ field.Payload next size
+  text_payload_fact : (most p units next size : ℕ) → number_at most d p ≡ Ok (number units next) → 2 * units ≡ size → next + size ≤ length d
+      → text_payload (text_at most d p) ≡ Ok (field.Payload next size)
   unfolding text_at
   text_payload_fact most p units next size e u i = rw (e, u, le-leb _ _ i, u)
 
@@ -184,7 +184,7 @@ module _ (d : List ℕ) where
 
   pub record PayloadAt (h : Shape) (at : ℕ) (p w : List ℕ) : Type 0 where
     pub place : ℕ
-    pub read : field_at h d at ≡ field.Payload place (length p)
+    pub read : field_at h d at ≡ Ok (field.Payload place (length p))
     pub there : Piece d place p w
 
   -- a lawful payload after its token is read back

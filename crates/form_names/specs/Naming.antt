@@ -5,9 +5,15 @@ use Rattle.std.specs.Prelude.{ℕ, ◌+◌, ◌-◌, ◌*◌, cond, List, [], �
 use Rattle.sequences.specs.Lists.{part}
 use Rattle.number.specs.Number.{shortest}
 use Rattle.form.specs.Canonical.{with_units}
+use Rattle.machine.specs.Tables.{NamesInside}
 use Rattle.form_slots.specs.declared.Parts.{Parts}
 use Rattle.form_slots.specs.Slots.{is_new, slots_after, number_in}
+use Rattle.form_names.specs.declared.Texts.{Texts}
 use Rattle.token.specs.Tokens.{name_width, NAMEDEF_TOKEN, QNAMEDEF_TOKEN}
+
+-- the rows of names lie inside the document
+abbrev pub TextsInside : Texts → Type 0
+TextsInside t = NamesInside t.doc.now t.names.now t.rows
 
 -- the text of the row that a class is the number of
 unfoldable pub class_text : List ℕ → List ℕ → ℕ → List ℕ

@@ -1,11 +1,13 @@
--- The loops that lay a number and copy bytes, and the ways out of the functions. Assumes nothing.
+-- The loop that lays a number, a copy of bytes, and the ways out of the functions. Assumes nothing.
 use Prim.Native.Nat.{ℕ, zero, suc, ◌+◌, ◌-◌, ◌*◌, ◌/◌, ◌%◌, ◌≤◌, ◌<◌}
 use mathlib.Core.Path.{◌≡◌, refl, sym, ◌∙◌}
 use mathlib.Core.List.{List, [], ◌∷◌}
 use native.Mathlib.Omega.{arith}
 use native.Mathlib.Numerals.{add-one}
-use lib.ListN.{length, get_or, set, length-set}
-use lib.Seq.{sets, drop-cons}
+use lib.ListN.{length, set, length-set, take, drop}
+use lib.Seq.{sets, sets-eq, take_all}
+use borrow.Rule.Slice.PartMut.{put_mid}
+use Rattle.std.proofs.lemmas.Slice.{put_mid-paste}
 use Rattle.sequences.specs.Lists.{part}
 use Rattle.sequences.proofs.Overlay.{part_length}
 use Rattle.sequences.proofs.Tests.{tests}
@@ -66,35 +68,17 @@ left_end {left = left} l h e =
 
 -- ---- a copy
 
-part_cons : (d : List ℕ) (p n : ℕ) → p < length d → part d p (suc n) ≡ get_or d p 0 ∷ part d (suc p) n
-part_cons d p n h = rw (drop-cons d p 0 h)
-
--- what is left to copy completes the part
-pub record Copying (doc out₀ : List ℕ) (at place size : ℕ) (out : List ℕ) (i : ℕ) : Type 0 where
-  pub within : i ≤ size
-  pub long : length out ≡ length out₀
-  pub same : sets out (at + i) (part doc (place + i) (size - i)) ≡ sets out₀ at (part doc place size)
-
-pub copy_start : (doc out : List ℕ) (at place size : ℕ) → Copying doc out at place size out 0
-copy_start doc out at place size =
-    let a : at + 0 ≡ at = omega arith in
-    let b : place + 0 ≡ place = omega arith in
-    let c : size - 0 ≡ size = omega arith in
-    record { within = omega arith; long = refl; same = rw (a, b, c) }
-
-pub copy_next : {doc out₀ out out₁ : List ℕ} {at place size i : ℕ} → Copying doc out₀ at place size out i → i < size → place + size ≤ length doc
-    → out₁ ≡ set out (at + i) (get_or doc (place + i) 0) → Copying doc out₀ at place size out₁ (i + 1)
-copy_next {doc} {out₀} {out} {out₁} {at} {place} {size} {i} c h f e =
-    let e₁ : size - i ≡ suc (size - (i + 1)) = omega arith in
-    let e₂ : at + (i + 1) ≡ suc (at + i) = omega arith in
-    let e₃ : place + (i + 1) ≡ suc (place + i) = omega arith in
-    let g = rw (e₁, part_cons doc (place + i) (size - (i + 1)) (omega arith)) at c.same in
-    record { within = omega arith; long = rw (e, length-set) c.long; same = rw (e₂, e₃, e) g }
-
-pub copy_end : {doc out₀ out : List ℕ} {at place size i : ℕ} → Copying doc out₀ at place size out i → size ≤ i → out ≡ sets out₀ at (part doc place size)
-copy_end {size = size} {i = i} c h =
-    let e : size - i ≡ 0 = omega arith in
-    rw e at c.same
+-- a copy into a part of the output lays the bytes there
+pub part_copied : (doc b now : List ℕ) (at place size : ℕ) → place + size ≤ length doc → at + size ≤ length b → now ≡ take ((place + size) - place) (drop place doc)
+    → put_mid at ((at + size) - at) b now ≡ sets b at (part doc place size)
+part_copied doc b now at place size h f i =
+    let l = part_length doc place size h in
+    let s : (place + size) - place ≡ size = omega arith in
+    let k : (at + size) - at ≡ size = omega arith in
+    let n : now ≡ part doc place size = rw s at i in
+    let t : take size (part doc place size) ≡ part doc place size = take_all size (part doc place size) (omega arith) in
+    put_mid-paste at ((at + size) - at) b now (part doc place size) size n (omega arith) (omega arith)
+    ∙ rw t (sym (rw l at (sets-eq (part doc place size) b at (omega arith))))
 
 -- ---- ways out
 

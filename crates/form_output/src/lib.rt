@@ -8,6 +8,7 @@ ghost use Rattle.number.specs.Number.{shortest};
 ghost use Rattle.form_output.specs.Output.{Fits, Put, far_bytes};
 ghost use Rattle.token.specs.Tokens.{longest, largest};
 
+// It asks nothing. An output that kept its own place would ask here that the next place is a number, so the place stays beside it.
 pub fn put(out: &mut [u8], at: usize, byte: u8)
     ensures { out.new ≡ set out.old at byte }
 {
@@ -16,7 +17,7 @@ pub fn put(out: &mut [u8], at: usize, byte: u8)
     }
 }
 
-// The shortest spelling of a number; gives the place after it.
+// The shortest spelling of a number; gives the place after it. The loop counts no index: it ends with the value.
 pub fn put_number(out: &mut [u8], at: usize, value: usize) -> usize
     requires { (value ≤ largest) × (at ≤ far_bytes) }
     ensures { Put out.old out.new at result (shortest value) }
@@ -32,34 +33,15 @@ pub fn put_number(out: &mut [u8], at: usize, value: usize) -> usize
     p + 1
 }
 
-// Copies bytes of the document to a place that has the room for them.
-fn copy(doc: &[u8], place: usize, size: usize, out: &mut [u8], at: usize)
-    requires { (place + size ≤ length doc.now) × (length doc.now ≤ longest) × (at + size ≤ length out.old) }
-    ensures { out.new ≡ sets out.old at (part doc.now place size) }
-{
-    let mut i: usize = 0;
-    while i < size {
-        out[at + i] = doc[place + i];
-        i += 1;
-    }
-}
-
 // Bytes of the document; measuring does not look at them. A number of at most five bytes may stand before them.
-pub fn lay(doc: &[u8], place: usize, size: usize, out: &mut [u8], at: usize) -> usize
+pub fn put_part(doc: &[u8], place: usize, size: usize, out: &mut [u8], at: usize) -> usize
     requires { (place + size ≤ length doc.now) × (length doc.now ≤ longest) × (at ≤ far_bytes + 5) × Fits (length out.old) at size }
     ensures { Put out.old out.new at result (part doc.now place size) }
 {
+    let next = at + size;
     if out.len() <= at {
-        return at + size;
+        return next;
     }
-    copy(doc, place, size, out, at);
-    at + size
-}
-
-// Bytes of the document.
-pub fn put_part(doc: &[u8], place: usize, size: usize, out: &mut [u8], at: usize) -> usize
-    requires { (place + size ≤ length doc.now) × (length doc.now ≤ longest) × (at ≤ far_bytes) × Fits (length out.old) at size }
-    ensures { Put out.old out.new at result (part doc.now place size) }
-{
-    lay(doc, place, size, out, at)
+    out[at..next].copy_from_slice(&doc[place..place + size]);
+    next
 }

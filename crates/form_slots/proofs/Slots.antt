@@ -116,6 +116,16 @@ module _ {b a : List ℕ} {base n class : ℕ} (room : base + region ≤ slot_co
           higher : (m : ℕ) → (m ≡ n → ⊥) → n - 1 < m → n < m
           higher m z l = omega arith
 
+-- the same, as the loop counts the turns
+pub clear_start : (l : List ℕ) (base : ℕ) → Trail l base → Clearing l l base (get_or l base 0 - 0) (get_or l (base + class_count) 0)
+clear_start l base x = let e : get_or l base 0 - 0 ≡ get_or l base 0 = omega arith in rw e (clear_first l base x)
+
+pub clear_next : {b a : List ℕ} {base class : ℕ} (count i : ℕ) → base + region ≤ slot_count → Low low_names b → Trail b base → Clearing b a base (count - i) class → i < count
+    → Clearing b (set a (base + class) 0) base (count - (i + 1)) (get_or (set a (base + class) 0) ((base + class_count) + class) 0)
+clear_next count i room low t x h =
+    let e : count - (i + 1) ≡ (count - i) - 1 = omega arith in
+    rw e (clear_more room low t x (omega arith))
+
 pub clear_all : {b a : List ℕ} {base n class : ℕ} → base + region ≤ slot_count → Low low_names b → Clearing b a base n class → n ≤ 0 → Cleared b (set a base 0) base
 clear_all {b} {a} {base} {n} room low x h =
     record {

@@ -13,8 +13,16 @@ pub const CLASSES: usize = token::NAME_ROWS + 1;
 // The numbers of one document, and its trail: the class defined last, and behind it for each class the one defined before it.
 pub const REGION: usize = 2 * CLASSES;
 
-// A region for the outer document and for each nested one.
+// A region for the outer document and for each nested one. One array and no array of structs: `marked`, `number_in` and `Trail`
+// (specs/Slots.antt) are about one list.
 pub const SLOTS: usize = REGION * (token::NESTED_DOCUMENTS + 1);
+
+// What the open documents have defined: names, and qnames.
+#[derive(Drop)]
+pub struct Defined {
+    pub names: [u16; SLOTS],
+    pub qnames: [u16; SLOTS],
+}
 
 // The classes of a qname's URI, prefix and local name.
 #[derive(Clone, Copy)]
@@ -41,7 +49,7 @@ pub fn parts_at(qnames: &[u32], classes: &[u32; token::NAME_ROWS], k: usize) -> 
 }
 
 // The number of a class in the document whose region begins at `base`; 0 where it is not defined. Only the class of a name gives a
-// name's number, and only that of a qname a qname's.
+// name's number, and only that of a qname a qname's: so this is two functions, and not one for any class.
 pub fn name_number(slots: &[u16; SLOTS], base: usize, class: NameNumber) -> NameNumber
     requires { (base + class.0 < slot_count) × Low low_names slots.now }
     ensures { result.0 ≡ number_in slots.now base class.0 }
@@ -91,12 +99,11 @@ pub fn clear(slots: &mut [u16; SLOTS], base: usize)
     requires { (base + region ≤ slot_count) × Low low_names slots.old × Trail slots.old base }
     ensures { Cleared slots.old slots.new base }
 {
-    let mut left = slots[base];
+    let count = slots[base];
     let mut class = slots[base + CLASSES] as usize;
-    while 0 < left {
+    for _i in 0..count {
         slots[base + class] = 0;
         class = slots[base + CLASSES + class] as usize;
-        left -= 1;
     }
     slots[base] = 0;
 }

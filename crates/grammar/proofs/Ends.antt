@@ -6,7 +6,8 @@ use mathlib.Core.List.{List, [], ◌∷◌}
 use native.Mathlib.Omega.{arith}
 use lib.ListN.{length}
 use borrow.Author.Tests.{le-ltb}
-use Rattle.token.specs.Tokens.{accepted}
+use Rattle.std.specs.Prelude.{Result, Ok}
+use Rattle.token.specs.declared.Refusal.{Refusal}
 use Rattle.modes.specs.Modes.{content}
 use Rattle.scan.specs.Steps.{end_step, step_at}
 use Rattle.modes.specs.declared.Mode.{Mode}
@@ -15,28 +16,31 @@ use Rattle.scan.specs.declared.Room.{Room}
 use Rattle.scan.specs.declared.Step.{Step}
 use Rattle.scan.specs.declared.Step.TheVariants as step
 use Rattle.machine.specs.Machine.{Scope, State, elements_in, apply, started}
-use Rattle.machine.proofs.Goes.{Goes}
+use Rattle.machine.proofs.Goes.{Goes, Halts, goes_halts}
 use Rattle.grammar.specs.Grammar.{Point, before_header, Depth, HeaderBytes, Document}
 use Rattle.grammar.proofs.Steps.{state_of, Fits, look, Path, none, by}
 use Rattle.grammar.proofs.Complete.{reads}
 
 -- ---- one end
 
-not_stop : (x : Step) {n p : ℕ} → Goes x → step.Stop n p ≡ x → ⊥
-not_stop x {n} {p} g e = subst Goes (sym e) g
+not_stop : (x : Step) {y : Result Step Refusal} {n p : ℕ} → Goes x → Halts n p y → y ≡ Ok x → ⊥
+not_stop x {n = n} {p} g h e = goes_halts x g (subst (λ (z : Result Step Refusal). Halts n p z) e h)
+
+same_step : {x y : Step} → ◌≡◌ {A = Result Step Refusal} (Ok x) (Ok y) → x ≡ y
+same_step e = cc
 
 module _ (opened : ℕ → List Scope → ℕ) (nested : List Scope → ℕ) (doc : List ℕ) (room : Room) where
-  pub same_end : {s f g : State} {n p k q : ℕ} → Path opened nested doc room s f → Path opened nested doc room s g
-      → step.Stop n p ≡ step_at doc (look opened nested doc room f) room → step.Stop k q ≡ step_at doc (look opened nested doc room g) room → f ≡ g
-  same_end none none a b = refl
-  same_end none (by x h e t) a b = absurd (not_stop x h (a ∙ sym e))
-  same_end (by x h e t) none a b = absurd (not_stop x h (b ∙ sym e))
-  same_end {g = g} (by {s = s} x h e t) (by y i j u) a b =
-      same_end t (subst (λ (z : Step). Path opened nested doc room (apply s z) g) (j ∙ sym e) u) a b
+  pub same_end : {s f g : State} {n p k q : ℕ} {x y : Result Step Refusal} → Path opened nested doc room s f → Path opened nested doc room s g
+      → Halts n p x → x ≡ step_at doc (look opened nested doc room f) room → Halts k q y → y ≡ step_at doc (look opened nested doc room g) room → f ≡ g
+  same_end none none h a k b = refl
+  same_end none (by x g e t) h a k b = absurd (not_stop x g h (a ∙ sym e))
+  same_end (by x g e t) none h a k b = absurd (not_stop x g k (b ∙ sym e))
+  same_end {g = g} (by {s = s} x l e t) (by y i j u) h a k b =
+      same_end t (subst (λ (z : Step). Path opened nested doc room (apply s z) g) (same_step (j ∙ sym e)) u) h a k b
 
   -- at the end of the document, nothing open
   pub end_step_fact : nested [] ≡ 0 → (u : Point) (m : Mode) → content m ≡ true → u.at ≡ length doc
-      → step.Stop accepted (length doc) ≡ step_at doc (look opened nested doc room (state_of u m 0 [])) room
+      → Ok (step.End (length doc)) ≡ step_at doc (look opened nested doc room (state_of u m 0 [])) room
   unfolding step_at end_step
   end_step_fact z u m c l =
       let h : length doc ≤ u.at = omega arith in
@@ -49,7 +53,7 @@ pub record Reaches (opened : ℕ → List Scope → ℕ) (nested : List Scope �
   pub last : Mode
   pub header : HeaderBytes doc 0 version
   pub path : Path opened nested doc room (started version 5) (state_of u last 0 [])
-  pub stop : step.Stop accepted (length doc) ≡ step_at doc (look opened nested doc room (state_of u last 0 [])) room
+  pub stop : Ok (step.End (length doc)) ≡ step_at doc (look opened nested doc room (state_of u last 0 [])) room
 
 -- with reading's limits
 record Fit (d : Depth) (e : ℕ) (os : List Scope) : Type 0 where

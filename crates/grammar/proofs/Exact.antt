@@ -9,10 +9,12 @@ use lib.Dec.{ltb}
 use lib.ListN.{length, length-append}
 use borrow.Author.Tests.{ltb-true, ltb-false}
 use Rattle.sequences.specs.Lists.{overlay}
+use Rattle.std.specs.Prelude.{Ok, Err}
+use Rattle.std.specs.Prelude as std
 use Rattle.token.specs.Tokens.{accepted, longest}
+use Rattle.token.specs.declared.Refusal.{Refusal}
 use Rattle.fields.specs.Fields.{header_at}
 use Rattle.fields.specs.declared.Header as headers
-use Rattle.fields.specs.declared.Header.TheVariants as header
 use Rattle.modes.specs.Modes.{content}
 use Rattle.scan.specs.Steps.{step_at}
 use Rattle.modes.specs.declared.Mode.TheVariants as mode
@@ -22,7 +24,8 @@ use Rattle.scan.specs.declared.Step.TheVariants as step
 use Rattle.machine.specs.Machine as machine
 use Rattle.machine.specs.Machine.{Scope, State, view, apply, started, Result, reading, Reads, flat_names, flat_qnames, flat_events, events_of}
 use Rattle.machine.specs.declared.Answer.{Answer}
-use Rattle.machine.proofs.Goes.{Goes}
+use Rattle.token.specs.Faults.{number_of}
+use Rattle.machine.proofs.Goes.{Goes, ended, answer_ended}
 use Rattle.machine.proofs.Trace as traces
 use Rattle.machine.proofs.Trace.{Trace, Stopped, stops_reading, kept}
 use Rattle.machine.proofs.Whole.{too_long_fact, header_on}
@@ -44,8 +47,7 @@ one_more : {A : Type 0} (l : List A) (a : A) {n : ℕ} → length l < n → leng
 one_more l a h = simp length-append (omega arith)
 
 module _ (doc : List ℕ) (room : Room) where
-  event_fits : (s : State) {x : Step} → Goes x → Found doc (view s) room x → Fits room s → Fits room (apply s x)
-  event_fits s g (found.stop n) f = absurd g
+  event_fits : (s : State) {x : Step} → Goes x → Found doc (view s) room (Ok x) → Fits room s → Fits room (apply s x)
   event_fits s g (found.ended l d e c) f = absurd g
   event_fits s g (found.name_def t e n) f = record { names = one_more s.names _ n; qnames = f.qnames; events = f.events }
   event_fits s g (found.qname_def t a b c n) f = record { names = f.names; qnames = one_more s.qnames _ n; events = f.events }
@@ -76,9 +78,9 @@ module _ (doc : List ℕ) (room : Room) where
 
   -- ---- accepted: derived
 
-  ended : (f : State) (os : List Scope) → f.outer ≡ os → length os ≡ 0 → f.here.elements ≡ 0 → content f.mode ≡ true → f.at ≡ length doc → Left doc f (point_of f)
-  ended f [] o d e c l = rw (o, e) (ending doc f.mode (point_of f) c l)
-  ended f (p ∷ os) o d e c l = absurd (let q : ⊥ = omega arith in q)
+  ended_fact : (f : State) (os : List Scope) → f.outer ≡ os → length os ≡ 0 → f.here.elements ≡ 0 → content f.mode ≡ true → f.at ≡ length doc → Left doc f (point_of f)
+  ended_fact f [] o d e c l = rw (o, e) (ending doc f.mode (point_of f) c l)
+  ended_fact f (p ∷ os) o d e c l = absurd (let q : ⊥ = omega arith in q)
 
   derived_by : (version : ℕ) → length doc ≤ longest → HeaderBytes doc 0 version → (r : Result) → Stopped doc room version (started version 5) r → r.number ≡ 0
       → Derives doc room r.version (rows_in r.final)
@@ -87,7 +89,7 @@ module _ (doc : List ℕ) (room : Room) where
       let n = accepted_ends w e in
       let a = n.past in
       let b = w.within in
-      let x = wholly doc {s = before_header} h (sound doc w.trace (ended f f.outer refl n.depth_none n.elements_none n.at_root (omega arith))) in
+      let x = wholly doc {s = before_header} h (sound doc w.trace (ended_fact f f.outer refl n.depth_none n.elements_none n.at_root (omega arith))) in
       let k = all_fit w.trace in
       rw w.version_is
       (record {
@@ -104,14 +106,14 @@ module _ (doc : List ℕ) (room : Room) where
         events_few = k.events;
       })
 
-  accepted_header : length doc ≤ longest → (h : headers.Header) → header_at doc 0 ≡ h → (reading doc room).number ≡ 0
+  accepted_header : length doc ≤ longest → (h : std.Result headers.Header Refusal) → header_at doc 0 ≡ h → (reading doc room).number ≡ 0
       → Derives doc room (reading doc room).version (rows_in (reading doc room).final)
-  accepted_header l (header.Is version next) e z =
+  accepted_header l (Ok x) e z =
       let h = header_found doc 0 e in
-      derived_by version l h.0 (reading doc room) (rw h.1 at (stops_reading doc room l e)) z
-  accepted_header l (header.Refused number place) e z =
+      derived_by x.version l h.0 (reading doc room) (rw h.1 at (stops_reading doc room l e)) z
+  accepted_header l (Err x) e z =
       let q = (header_refused doc 0 e).some in
-      let n : number ≡ 0 = ap (λ (r : Result). r.number) (header_on doc room l refl e) ∙ z in
+      let n : number_of x.fault ≡ 0 = ap (λ (r : Result). r.number) (header_on doc room l refl e) ∙ z in
       absurd (let y : ⊥ = omega arith in y)
 
   accepted_length : (b : Bool) → ltb longest (length doc) ≡ b → (reading doc room).number ≡ 0 → Derives doc room (reading doc room).version (rows_in (reading doc room).final)
@@ -134,10 +136,10 @@ module _ (doc : List ℕ) (room : Room) where
   accepts_by : {version : ℕ} {u : Point} → Reaches all_open all_nested doc room version u → Stopped doc room version (started version 5) (reading doc room)
       → Accepts doc room version (rows_at u)
   accepts_by {version} {u} x w =
-      let q : (reading doc room).final ≡ state_of u x.last 0 [] = same_end all_open all_nested doc room (as_path w.trace) x.path w.stop x.stop in
-      let z : step.Stop (reading doc room).number (reading doc room).place ≡ step.Stop accepted (length doc) =
-      w.stop ∙ ap (λ (s : State). step_at doc (view s) room) q ∙ sym x.stop in
-      record { number_is = cc; place_is = cc; version_is = w.version_is; rows_are = ap rows_in q }
+      let q : (reading doc room).final ≡ state_of u x.last 0 [] = same_end all_open all_nested doc room (as_path w.trace) x.path w.halts w.stop ended x.stop in
+      let z : w.last ≡ Ok (step.End (length doc)) = w.stop ∙ ap (λ (s : State). step_at doc (view s) room) q ∙ sym x.stop in
+      let a = answer_ended w.halts z in
+      record { number_is = a.0; place_is = a.1; version_is = w.version_is; rows_are = ap rows_in q }
 
   pub derived_accepts : {version : ℕ} {rows : Rows} → Derives doc room version rows → Accepts doc room version rows
   derived_accepts {version} {rows} g =

@@ -14,11 +14,12 @@ use borrow.Author.Tests.{ltb-true, leb-true, eqb-true, lt-ltb, le-ltb, le-leb, e
 use Rattle.sequences.specs.Lists.{part, little}
 use Rattle.sequences.proofs.Tests.{tests, cond_if, and_left, and_right}
 use Rattle.sequences.proofs.Overlay.{part_length}
+use Rattle.std.specs.Prelude.{Result, Ok, Err}
+use Rattle.token.specs.declared.Refusal.{Refusal}
 use Rattle.token.specs.declared.Shape.{Shape}
 use Rattle.token.specs.declared.Shape.TheVariants as shape
 use Rattle.number.specs.Number.{number_at}
 use Rattle.number.specs.declared.Number as numbers
-use Rattle.number.specs.declared.Number.TheVariants as number
 use Rattle.rules.specs.Rules.{decimal_size, decimal_lawful, time_bytes, day_within, zone_lawful, time_lawful, zoned_lawful, lawful}
 use Rattle.value.specs.Fields.{needed, text_judged, text_payload, text_at, blob_after, decimal_after, time_field, qname_payload, extent_at, ruled, field_at}
 use Rattle.value.specs.declared.Text as texts
@@ -102,48 +103,54 @@ module _ (doc : List ℕ) where
 
   -- ---- found: derived
 
-  abbrev PayloadIs : Shape → ℕ → Field → Type 0
-  PayloadIs h at (field.Payload place size) = PayloadAt doc h at place size
-  PayloadIs h at (field.Reference n next) = Unit
-  PayloadIs h at (field.Refused n place) = Unit
+  abbrev PayloadIs : Shape → ℕ → Result Field Refusal → Type 0
+  PayloadIs h at (Ok (field.Payload place size)) = PayloadAt doc h at place size
+  PayloadIs h at (Ok (field.Reference n next)) = Unit
+  PayloadIs h at (Err r) = Unit
 
   -- before the rules on its bytes
-  abbrev Before : Shape → ℕ → Field → Type 0
-  Before h at (field.Payload place size) = lawful h (part doc place size) ≡ true → PayloadAt doc h at place size
-  Before h at (field.Reference n next) = Unit
-  Before h at (field.Refused n place) = Unit
+  abbrev Before : Shape → ℕ → Result Field Refusal → Type 0
+  Before h at (Ok (field.Payload place size)) = lawful h (part doc place size) ≡ true → PayloadAt doc h at place size
+  Before h at (Ok (field.Reference n next)) = Unit
+  Before h at (Err r) = Unit
 
-  ruled_is : (h : Shape) (at : ℕ) (f : Field) → Before h at f → PayloadIs h at (ruled h doc at f)
-  ruled_is h at (field.Payload place size) k = cond_if (PayloadIs h at) (lawful h (part doc place size)) _ _ k (λ t. tt)
-  ruled_is h at (field.Reference n next) k = tt
-  ruled_is h at (field.Refused n place) k = tt
+  ruled_is : (h : Shape) (at : ℕ) (f : Result Field Refusal) → Before h at f → PayloadIs h at (ruled h doc at f)
+  ruled_is h at (Ok (field.Payload place size)) k = cond_if (PayloadIs h at) (lawful h (part doc place size)) _ _ k (λ t. tt)
+  ruled_is h at (Ok (field.Reference n next)) k = tt
+  ruled_is h at (Err r) k = tt
 
   needed_is : (h : Shape) (at place size : ℕ) → (place + size ≤ length doc → lawful h (part doc place size) ≡ true → PayloadAt doc h at place size) → Before h at (needed doc place size)
   unfolding needed
   needed_is h at place size k = cond_if (Before h at) (leb (place + size) (length doc)) _ _ (λ t. k (leb-true _ _ t)) (λ t. tt)
 
-  text_is : (most at : ℕ) (n : numbers.Number) → NumberIs doc most (at + 1) n → Before (shape.Text most) at (text_payload (text_judged doc n))
-  text_is most at (number.Is units next) d =
-      cond_if (λ (t : texts.Text). Before (shape.Text most) at (text_payload t)) (leb (next + 2 * units) (length doc)) _ _
+  text_is : (most at : ℕ) (n : Result numbers.Number Refusal) → NumberIs doc most (at + 1) n → Before (shape.Text most) at (text_payload (text_judged doc n))
+  text_is most at (Ok n) d =
+      cond_if (λ (t : Result texts.Text Refusal). Before (shape.Text most) at (text_payload t)) (leb (n.next + 2 * n.value) (length doc)) _ _
       (λ t l. textdata d (leb-true _ _ t)) (λ t. tt)
-  text_is most at (number.Refused n place) d = tt
+  text_is most at (Err r) d = tt
 
-  blob_is : (most at : ℕ) (n : numbers.Number) → NumberIs doc most (at + 1) n → Before (shape.Blob most) at (blob_after doc n)
-  blob_is most at (number.Is size next) d = needed_is (shape.Blob most) at next size (λ h l. blob d h)
-  blob_is most at (number.Refused n place) d = tt
+  blob_is : (most at : ℕ) (n : Result numbers.Number Refusal) → NumberIs doc most (at + 1) n → Before (shape.Blob most) at (blob_after doc n)
+  blob_is most at (Ok n) d = needed_is (shape.Blob most) at n.next n.value (λ h l. blob d h)
+  blob_is most at (Err r) d = tt
 
-  page_is : (most at : ℕ) (n : numbers.Number) → NumberIs doc most (at + 1) n → Before (shape.CodePage most) at (blob_after doc n)
+  page_is : (most at : ℕ) (n : Result numbers.Number Refusal) → NumberIs doc most (at + 1) n → Before (shape.CodePage most) at (blob_after doc n)
   unfolding lawful
-  page_is most at (number.Is size next) d =
-      needed_is (shape.CodePage most) at next size (λ h l. codepagetext d h (rw (part_length doc next size h) at (leb-true 4 (length (part doc next size)) l)))
-  page_is most at (number.Refused n place) d = tt
+  page_is most at (Ok n) d =
+      needed_is (shape.CodePage most) at n.next n.value (λ h l. codepagetext d h (rw (part_length doc n.next n.value h) at (leb-true 4 (length (part doc n.next n.value)) l)))
+  page_is most at (Err r) d = tt
 
-  decimal_is : (at : ℕ) (n : numbers.Number) → NumberIs doc 5 (at + 1) n → Before shape.Decimal at (decimal_after doc at n)
+  decimal_is : (at : ℕ) (n : Result numbers.Number Refusal) → NumberIs doc 5 (at + 1) n → Before shape.Decimal at (decimal_after doc at n)
   unfolding lawful decimal_lawful
-  decimal_is at (number.Is size next) d =
-      cond_if (Before shape.Decimal at) (decimal_size size) _ _
-      (λ t. needed_is shape.Decimal at next size (λ h l. go h t l)) (λ t. tt)
+  decimal_is at (Ok n) d =
+      cond_if (Before shape.Decimal at) (decimal_size n.value) _ _
+      (λ t. needed_is shape.Decimal at n.next n.value (λ h l. go h t l)) (λ t. tt)
     where
+      next : ℕ
+      next = n.next
+
+      size : ℕ
+      size = n.value
+
       go : next + size ≤ length doc → decimal_size size ≡ true → lawful shape.Decimal (part doc next size) ≡ true → PayloadAt doc shape.Decimal at next size
       go h t l =
           let p = part doc next size in
@@ -158,7 +165,7 @@ module _ (doc : List ℕ) where
           let k : get_or p 1 0 ≤ get_or p 0 0 = leb-true _ _ (and_right b _ (and_left a _ l)) in
           let q : get_or p 0 0 ≤ 38 = leb-true _ _ (and_right (decimal_size (length p)) _ (and_left b _ (and_left a _ l))) in
           decimal d (decimal_size_lem size t) h (omega arith) (omega arith) (omega arith)
-  decimal_is at (number.Refused n place) d = tt
+  decimal_is at (Err r) d = tt
 
   time_is : (h : Shape) (at more : ℕ) → (at + 1 < length doc → get_or doc (at + 1) 0 ≤ 7 → (at + 1) + (1 + time_bytes (get_or doc (at + 1) 0) + more) ≤ length doc
       → lawful h (part doc (at + 1) (1 + time_bytes (get_or doc (at + 1) 0) + more)) ≡ true → PayloadAt doc h at (at + 1) (1 + time_bytes (get_or doc (at + 1) 0) + more))
@@ -219,9 +226,9 @@ module _ (doc : List ℕ) where
   unfolding lawful
   date_lawful at first last h l = sqldate h (day_of_fact first last (at + 1) refl (and_right (eqb (length (part doc (at + 1) 3)) 3) _ l))
 
-  qname_none : (at : ℕ) (n : numbers.Number) → Before shape.Qname at (qname_payload n)
-  qname_none at (number.Is value next) = tt
-  qname_none at (number.Refused n place) = tt
+  qname_none : (at : ℕ) (n : Result numbers.Number Refusal) → Before shape.Qname at (qname_payload n)
+  qname_none at (Ok n) = tt
+  qname_none at (Err r) = tt
 
   extent_is : (h : Shape) (at : ℕ) → Before h at (extent_at h doc at)
   unfolding extent_at text_at
@@ -237,7 +244,7 @@ module _ (doc : List ℕ) where
   extent_is (shape.Time first last) at = time_is (shape.Time first last) at 3 (λ i h k l. time_lawful_fact at first last i h _ refl k l)
   extent_is (shape.ZonedTime first last) at = time_is (shape.ZonedTime first last) at 5 (λ i h k l. zoned_lawful_fact at first last i h _ refl k l)
 
-  pub payload_found : (h : Shape) (at : ℕ) {place size : ℕ} → field_at h doc at ≡ field.Payload place size → PayloadAt doc h at place size
+  pub payload_found : (h : Shape) (at : ℕ) {place size : ℕ} → field_at h doc at ≡ Ok (field.Payload place size) → PayloadAt doc h at place size
   unfolding field_at
   payload_found h at e = subst (PayloadIs h at) e (ruled_is h at (extent_at h doc at) (extent_is h at))
 
@@ -263,7 +270,7 @@ module _ (doc : List ℕ) where
       go (inl h) = rw (le-leb _ _ h)
       go (inr h) = rw (le-leb _ _ h) (or_right (leb (little (part doc place 2)) 840))
 
-  pub payload_derived : {h : Shape} {at place size : ℕ} → PayloadAt doc h at place size → field_at h doc at ≡ field.Payload place size
+  pub payload_derived : {h : Shape} {at place size : ℕ} → PayloadAt doc h at place size → field_at h doc at ≡ Ok (field.Payload place size)
   unfolding field_at extent_at needed lawful text_at decimal_lawful day_within time_field zoned_lawful
   payload_derived (nothing {at = at} h) = rw (le-leb _ _ h, part_length doc (at + 1) 0 h)
   payload_derived (bytes {at = at} {size = size} h) = rw (le-leb _ _ h, part_length doc (at + 1) size h, eq-eqb size size refl)

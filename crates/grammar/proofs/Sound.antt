@@ -9,18 +9,20 @@ use lib.Dec.{ltb}
 use lib.ListN.{length, get_or}
 use borrow.Author.Tests.{ltb-true, eqb-true}
 use Rattle.sequences.proofs.Tests.{and_left, and_right}
+use Rattle.std.specs.Prelude.{Result, Ok, Err}
 use Rattle.token.specs.Tokens.{shape_of}
+use Rattle.token.specs.Faults.{refusal}
+use Rattle.token.specs.declared.Fault.TheVariants.{Missing}
+use Rattle.token.specs.declared.Refusal.{Refusal}
 use Rattle.token.specs.declared.QnameNumber.{QnameNumber}
 use Rattle.token.specs.declared.Class.{Class}
 use Rattle.token.specs.declared.Class.TheVariants as class
 use Rattle.token.specs.declared.Shape.{Shape}
 use Rattle.token.specs.declared.Shape.TheVariants as shape
-use Rattle.number.specs.Number.{number_at}
+use Rattle.number.specs.Number.{number, number_at}
 use Rattle.number.specs.declared.Number as numbers
-use Rattle.number.specs.declared.Number.TheVariants as number
 use Rattle.rules.specs.Rules.{lawful}
-use Rattle.value.specs.Fields.{text_at, qname_payload, extent_at, ruled, field_at}
-use Rattle.value.specs.declared.Text.TheVariants as text
+use Rattle.value.specs.Fields.{text, text_at, qname_payload, extent_at, ruled, field_at}
 use Rattle.value.specs.declared.Field.{Field}
 use Rattle.value.specs.declared.Field.TheVariants as field
 use Rattle.modes.specs.Modes.{content, in_attributes, allowed}
@@ -56,12 +58,12 @@ module _ (doc : List ℕ) where
   byte t e = record { inside = t.inside; is = e }
 
   -- ---- texts
-  text_token : (s : Point) (token : ℕ) {place units : ℕ} → Byte doc s.at token → text_at 5 doc (s.at + 1) ≡ text.Is place units
+  text_token : (s : Point) (token : ℕ) {place units : ℕ} → Byte doc s.at token → text_at 5 doc (s.at + 1) ≡ Ok (text place units)
       → TextToken doc token s (past_text s token place units)
   text_token s token b e = texttoken b (text_found doc (s.at + 1) e)
 
   texts : (s : State) {c : Class} {m : Mode} {place units : ℕ} {u : Point} → Stands doc (view s) c → TextLeads s.mode c m
-      → text_at 5 doc (s.at + 1) ≡ text.Is place units
+      → text_at 5 doc (s.at + 1) ≡ Ok (text place units)
       → Rest doc s.here.elements s.outer m (past_text (point_of s) (get_or doc s.at 0) place units) u → Left doc s u
   texts s t found.xml_decl e r =
       let k : get_or doc s.at 0 ≡ 0xFE = eqb-true _ _ (coded _ t.class_is) in
@@ -101,27 +103,27 @@ module _ (doc : List ℕ) where
       (subst (λ (c : Class). Values s.here.version c) (sym t.class_is) (values (view s) k t.may))
 
   -- a qname's number, as the value of XSD-QNAME
-  abbrev as_number : Field → numbers.Number
-  as_number (field.Payload place size) = number.Refused 0 0
-  as_number (field.Reference k next) = number.Is k.0 next
-  as_number (field.Refused n place) = number.Refused n place
+  abbrev as_number : Result Field Refusal → Result numbers.Number Refusal
+  as_number (Ok (field.Payload place size)) = Err (refusal Missing 0)
+  as_number (Ok (field.Reference k next)) = Ok (number k.0 next)
+  as_number (Err r) = Err r
 
-  qname_by : (n : numbers.Number) {k : QnameNumber} {next : ℕ} → qname_payload n ≡ field.Reference k next → n ≡ number.Is k.0 next
-  qname_by (number.Is value next) e = ap as_number e
-  qname_by (number.Refused m place) e = rest.clash (cc)
+  qname_by : (n : Result numbers.Number Refusal) {k : QnameNumber} {next : ℕ} → qname_payload n ≡ Ok (field.Reference k next) → n ≡ Ok (number k.0 next)
+  qname_by (Ok x) e = ap as_number e
+  qname_by (Err r) e = rest.clash (cc)
 
-  ruled_qname : (at : ℕ) (f : Field) {k : QnameNumber} {next : ℕ} → ruled shape.Qname doc at f ≡ field.Reference k next → f ≡ field.Reference k next
+  ruled_qname : (at : ℕ) (f : Result Field Refusal) {k : QnameNumber} {next : ℕ} → ruled shape.Qname doc at f ≡ Ok (field.Reference k next) → f ≡ Ok (field.Reference k next)
   unfolding lawful
-  ruled_qname at (field.Payload place size) e = rest.clash (cc)
-  ruled_qname at (field.Reference m next) e = e
-  ruled_qname at (field.Refused n place) e = rest.clash (cc)
+  ruled_qname at (Ok (field.Payload place size)) e = rest.clash (cc)
+  ruled_qname at (Ok (field.Reference m next)) e = e
+  ruled_qname at (Err r) e = rest.clash (cc)
 
-  qname_at_fact : (at : ℕ) {k : QnameNumber} {next : ℕ} → field_at shape.Qname doc at ≡ field.Reference k next → number_at 5 doc (at + 1) ≡ number.Is k.0 next
+  qname_at_fact : (at : ℕ) {k : QnameNumber} {next : ℕ} → field_at shape.Qname doc at ≡ Ok (field.Reference k next) → number_at 5 doc (at + 1) ≡ Ok (number k.0 next)
   unfolding field_at extent_at
   qname_at_fact at e = qname_by (number_at 5 doc (at + 1)) (ruled_qname at (qname_payload (number_at 5 doc (at + 1))) e)
 
   referring : (s : State) {c : Class} {k : QnameNumber} {next : ℕ} → Stands doc (view s) c → ValueClass c
-      → field_at (shape_of (get_or doc s.at 0)) doc s.at ≡ field.Reference k next → 1 ≤ k.0 → k.0 ≤ length s.here.qnames
+      → field_at (shape_of (get_or doc s.at 0)) doc s.at ≡ Ok (field.Reference k next) → 1 ≤ k.0 → k.0 ≤ length s.here.qnames
       → AtomicValue doc (point_of s) (past_qname (point_of s) (get_or doc s.at 0) k.0 next)
   referring s t c e a b =
       let q = reference_shape (shape_of (get_or doc s.at 0)) doc s.at e in
@@ -141,8 +143,7 @@ module _ (doc : List ℕ) where
       rest.leaving doc s.mode s.here.elements o os (point_of s) c z (byte t (eqb-true _ _ (coded _ t.class_is))) r
 
   -- ---- one step
-  moved : (s : State) (room : Room) {x : Step} {u : Point} → Goes x → Found doc (view s) room x → Left doc (apply s x) u → Left doc s u
-  moved s room g (found.stop n) r = absurd g
+  moved : (s : State) (room : Room) {x : Step} {u : Point} → Goes x → Found doc (view s) room (Ok x) → Left doc (apply s x) u → Left doc s u
   moved s room g (found.ended l d e c) r = absurd g
   moved s room g (found.name_def t e n) r =
       rest.metadata doc s.mode t.may (a_namedef (namedef (byte t (eqb-true _ _ (coded _ t.class_is))) (text_found doc (s.at + 1) e))) r

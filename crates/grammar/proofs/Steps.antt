@@ -7,11 +7,11 @@ use native.Mathlib.Omega.{arith}
 use lib.Dec.{eqb}
 use lib.ListN.{length, length-append}
 use borrow.Author.Tests.{lt-ltb, le-leb, eqb-true}
+use Rattle.std.specs.Prelude.{Ok}
 use Rattle.token.specs.Tokens.{class_of}
 use Rattle.token.specs.declared.Class.{Class}
 use Rattle.token.specs.declared.Class.TheVariants as class
-use Rattle.value.specs.Fields.{text_at, extent_at, field_at}
-use Rattle.value.specs.declared.Text.TheVariants as text
+use Rattle.value.specs.Fields.{text, text_at, extent_at, field_at}
 use Rattle.modes.specs.Modes.{content, in_attributes, in_declaration, is, allowed, after_metadata, after_misc, after_value}
 use Rattle.scan.specs.Steps.{event_due, text_step, name_step, qname_step, extension_step, pi_step, element_step, attribute_step, value_step, nest_step, class_step, token_step, declared_step, step_at}
 use Rattle.modes.specs.declared.Mode.{Mode}
@@ -51,7 +51,7 @@ room_for : {A : Type 0} (l : List A) (a : A) {n : ℕ} → length (l ++ (a ∷ [
 room_for l a {n} h = let q : length l + 1 ≤ n = simp length-append at h in omega arith
 
 grows : (s : State) (x : Step) → Goes x → Grows s (apply s x)
-grows s (step.Stop number place) g = absurd g
+grows s (step.End place) g = absurd g
 grows s (step.Name place units next) g = record { names = longer s.names _; qnames = omega arith; events = omega arith }
 grows s (step.Qname uri prefix local next) g = record { names = omega arith; qnames = longer s.qnames _; events = omega arith }
 grows s (step.Skip next) g = record { names = omega arith; qnames = omega arith; events = omega arith }
@@ -93,7 +93,7 @@ module _ (opened : ℕ → List Scope → ℕ) (nested : List Scope → ℕ) (do
   -- the steps from one state to another
   pub data Path : State → State → Type 0 where
     none : {s : State} → Path s s
-    by : {s u : State} (x : Step) → Goes x → x ≡ step_at doc (look s) room → Path (apply s x) u → Path s u
+    by : {s u : State} (x : Step) → Goes x → Ok x ≡ step_at doc (look s) room → Path (apply s x) u → Path s u
 
   -- a walk of the machine, where the rows at its end have room
   pub record Reach (s t : State) : Type 0 where
@@ -118,7 +118,7 @@ module _ (opened : ℕ → List Scope → ℕ) (nested : List Scope → ℕ) (do
       }
 
   -- one step
-  one : (s : State) (x : Step) → Goes x → (Fits room (apply s x) → x ≡ step_at doc (look s) room) → Reach s (apply s x)
+  one : (s : State) (x : Step) → Goes x → (Fits room (apply s x) → Ok x ≡ step_at doc (look s) room) → Reach s (apply s x)
   one s x g w = record { grow = grows s x g; steps = λ f. by x g (w f) none }
 
   -- ---- the step of a token
@@ -127,8 +127,8 @@ module _ (opened : ℕ → List Scope → ℕ) (nested : List Scope → ℕ) (do
   unfolding step_at token_step
   at_token v c b d e a = rw (lt-ltb _ _ b.inside, d, b.is, e, a)
 
-  text_step_fact : (v : View) (k : ℕ) (m : Mode) {place units : ℕ} → text_at 5 doc (v.at + 1) ≡ text.Is place units → v.events < room.events
-      → step.Event k place units m (place + 2 * units) ≡ text_step doc v room k m
+  text_step_fact : (v : View) (k : ℕ) (m : Mode) {place units : ℕ} → text_at 5 doc (v.at + 1) ≡ Ok (text place units) → v.events < room.events
+      → Ok (step.Event k place units m (place + 2 * units)) ≡ text_step doc v room k m
   unfolding text_step event_due
   text_step_fact v k m e l = rw (e, lt-ltb _ _ l)
 

@@ -7,6 +7,7 @@ use native.Mathlib.Omega.{arith}
 use lib.ListN.{length}
 use Rattle.scan.specs.declared.Room.{Room}
 use Rattle.machine.specs.Machine.{started}
+use Rattle.machine.proofs.Goes.{ended}
 use Rattle.grammar.specs.Grammar.{Point, rows_at, before_header, Depth, Document, rows_in}
 use Rattle.grammar.proofs.Steps.{state_of, Path}
 use Rattle.grammar.proofs.Ends.{same_end, Reaches, nothing_open, some_nested, unlimited}
@@ -17,7 +18,7 @@ same_rows : (doc : List ℕ) (room : Room) {v w : ℕ} {s t : Point} → Reaches
 same_rows doc room {v} {w} {s} {t} a b =
     let e : v ≡ w = sym a.header.version_is.is ∙ b.header.version_is.is in
     let p = subst (λ (k : ℕ). Path nothing_open some_nested doc room (started k 5) (state_of s a.last 0 [])) e a.path in
-    let q : state_of s a.last 0 [] ≡ state_of t b.last 0 [] = same_end nothing_open some_nested doc room p b.path a.stop b.stop in
+    let q : state_of s a.last 0 [] ≡ state_of t b.last 0 [] = same_end nothing_open some_nested doc room p b.path ended a.stop ended b.stop in
     (e, ap rows_in q)
 
 -- demand 2: whatever the limits, two derivations of one document have the same version and the same rows

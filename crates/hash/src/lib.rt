@@ -13,8 +13,9 @@ const WORD: u64 = 4294967296;
 const MULTIPLIER: u64 = 4294957665;
 
 // The hash with one number more: a multiply with carry, which never wraps.
+#[tactic(auto, using(crate::proofs::Carry::high, crate::proofs::Carry::low, crate::proofs::Carry::carry, crate::proofs::Carry::carry_more))]
 pub fn mix(h: u64, x: u32) -> u64
     ensures { result ≡ mix_of h x }
 {
-    (h % WORD) * MULTIPLIER + h / WORD + (x as u64)
+    (h % WORD) * MULTIPLIER + h / WORD + u64::from(x)
 }

@@ -8,7 +8,7 @@ ghost use Rattle.hexadecimal.specs.Hexadecimal.{hex_digit, hex};
 ghost use Rattle.token.specs.Tokens.{longest};
 
 // The hexadecimal digit of a number below 16.
-fn hex_digit(d: u8) -> u8
+pub fn hex_digit(d: u8) -> u8
     requires { d < 16 }
     ensures { result ≡ hex_digit d }
 {
@@ -41,10 +41,8 @@ pub fn hex_into(p: &[u8], out: &mut [u8])
     requires { (length p.now ≤ longest) × (4 * length p.now ≤ length out.old) }
     ensures { out.new ≡ overlay (bytes_of (hex p.now)) out.old }
 {
-    let mut i: usize = 0;
-    while i < p.len() {
-        put_byte(out, 4 * i, p[i]);
-        i += 1;
+    for (i, b) in p.iter().enumerate() {
+        put_byte(out, 4 * i, *b);
     }
 }
 
@@ -54,8 +52,6 @@ pub fn hex_unit(p: &[u8], k: usize) -> u16
     ensures { result ≡ get_or (hex p.now) k 0 }
 {
     let b = p[k / 2];
-    if k % 2 == 0 {
-        return slices::wide16(hex_digit(b / 16));
-    }
-    slices::wide16(hex_digit(b % 16))
+    let d = if k % 2 == 0 { b / 16 } else { b % 16 };
+    u16::from(hex_digit(d))
 }

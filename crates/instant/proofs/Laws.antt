@@ -1,7 +1,7 @@
 -- A date and a time are the instant that they were found for, and only an instant outside the calendar has none (02, item 1). Assumes
 -- nothing.
 use Prim.Native.Nat.{ℕ, suc, ◌+◌, ◌-◌, ◌*◌, ◌/◌, ◌%◌, ◌≤◌, ◌<◌}
-use mathlib.Core.Path.{◌≡◌, refl, subst}
+use mathlib.Core.Path.{◌≡◌, refl, ap, subst}
 use mathlib.Core.Logic.{inl, inr}
 use mathlib.Core.Bool.{Bool, true, false, cond}
 use mathlib.Core.List.{List}
@@ -20,9 +20,8 @@ use Rattle.moment.specs.Written.{Writable}
 use Rattle.instant.specs.declared.Form.{Form}
 use Rattle.instant.specs.declared.Form.TheVariants.{Date2, DateTime2, Time2, DateTimeOffset, Milliseconds}
 use Rattle.instant.specs.declared.Local.{Local}
-use Rattle.instant.specs.declared.Local.TheVariants.{At, Outside}
-use Rattle.instant.specs.declared.Found.TheVariants.{Text, NoText}
-use Rattle.instant.specs.Instant.{precision_in, zone_in, is_west, minutes_of, per_day, since_first, stored_in, dated, zone_ticks, local_of, local_in, day_time_at, zoned_at, moment_of}
+use Rattle.std.specs.Prelude.{Option, Some, None}
+use Rattle.instant.specs.Instant.{precision_in, zone_in, is_west, minutes_of, per_day, since_first, stored_in, at, dated, zone_ticks, local_of, local_in, day_time_at, zoned_at, moment_of}
 use Rattle.instant.specs.Instants.{Placed, Past, Moved, Off}
 use Rattle.instant.specs.Forms.{form_shape}
 use Rattle.instant.proofs.Fields.{date_field, date_time_fields, time_only_fields, zoned_fields}
@@ -33,15 +32,16 @@ per_day_some : (precision : ℕ) → 0 < per_day precision
 unfolding per_day
 per_day_some precision = omega (arith, ten_pos precision)
 
-pub dated_placed : (precision n : ℕ) {day ticks : ℕ} → dated precision n ≡ At day ticks → Placed precision n day ticks
+pub dated_placed : (precision n : ℕ) {day ticks : ℕ} → dated precision n ≡ Some (at day ticks) → Placed precision n day ticks
 unfolding dated since_first
 dated_placed precision n {day} {ticks} e = go (leb (n / per_day precision) last_day) refl e
   where
-    go : (b : Bool) → leb (n / per_day precision) last_day ≡ b → cond b (At (n / per_day precision) (n % per_day precision)) Outside ≡ At day ticks
+    go : (b : Bool) → leb (n / per_day precision) last_day ≡ b → cond b (Some (at (n / per_day precision) (n % per_day precision))) None ≡ Some (at day ticks)
         → Placed precision n day ticks
     go true t f =
-        let x : n / per_day precision ≡ day = cc in
-        let y : n % per_day precision ≡ ticks = cc in
+        let q : at (n / per_day precision) (n % per_day precision) ≡ at day ticks = cc in
+        let x : n / per_day precision ≡ day = ap (λ (l : Local). l.day) q in
+        let y : n % per_day precision ≡ ticks = ap (λ (l : Local). l.ticks) q in
         record {
           in_calendar = rw x at (leb-true (n / per_day precision) last_day t);
           in_day = rw y at (mod-lt n (per_day_some precision));
@@ -50,11 +50,11 @@ dated_placed precision n {day} {ticks} e = go (leb (n / per_day precision) last_
     go false t f = apart (cc)
 
 -- no date: the days before it are more than the calendar has
-pub dated_past : (precision n : ℕ) → dated precision n ≡ Outside → Past precision n
+pub dated_past : (precision n : ℕ) → dated precision n ≡ None → Past precision n
 unfolding dated
 dated_past precision n e = go (leb (n / per_day precision) last_day) refl e
   where
-    go : (b : Bool) → leb (n / per_day precision) last_day ≡ b → cond b (At (n / per_day precision) (n % per_day precision)) Outside ≡ Outside → Past precision n
+    go : (b : Bool) → leb (n / per_day precision) last_day ≡ b → cond b (Some (at (n / per_day precision) (n % per_day precision))) None ≡ None → Past precision n
     go true t f = apart (cc)
     go false t f =
         let l : suc last_day ≤ n / per_day precision = leb-false _ _ t in
@@ -65,11 +65,11 @@ dated_past precision n e = go (leb (n / per_day precision) last_day) refl e
 -- ---- the same in the local time of a zone
 
 module _ (precision n minutes : ℕ) where
-  pub local_moved : (minus : Bool) {day ticks : ℕ} → local_of precision n minus minutes ≡ At day ticks → Moved precision n minus minutes day ticks
+  pub local_moved : (minus : Bool) {day ticks : ℕ} → local_of precision n minus minutes ≡ Some (at day ticks) → Moved precision n minus minutes day ticks
   unfolding local_of
   local_moved true {day} {ticks} e = go (ltb n (zone_ticks precision minutes)) refl e
     where
-      go : (b : Bool) → ltb n (zone_ticks precision minutes) ≡ b → cond b Outside (dated precision (n - zone_ticks precision minutes)) ≡ At day ticks
+      go : (b : Bool) → ltb n (zone_ticks precision minutes) ≡ b → cond b None (dated precision (n - zone_ticks precision minutes)) ≡ Some (at day ticks)
           → Moved precision n true minutes day ticks
       go true t f = apart (cc)
       go false t f =
@@ -80,11 +80,11 @@ module _ (precision n minutes : ℕ) where
       let d = dated_placed precision (n + zone_ticks precision minutes) e in
       record { in_calendar = d.in_calendar; in_day = d.in_day; same = omega (arith, d.same) }
 
-  pub local_off : (minus : Bool) → local_of precision n minus minutes ≡ Outside → Off precision n minus minutes
+  pub local_off : (minus : Bool) → local_of precision n minus minutes ≡ None → Off precision n minus minutes
   unfolding local_of
   local_off true e = go (ltb n (zone_ticks precision minutes)) refl e
     where
-      go : (b : Bool) → ltb n (zone_ticks precision minutes) ≡ b → cond b Outside (dated precision (n - zone_ticks precision minutes)) ≡ Outside → Off precision n true minutes
+      go : (b : Bool) → ltb n (zone_ticks precision minutes) ≡ b → cond b None (dated precision (n - zone_ticks precision minutes)) ≡ None → Off precision n true minutes
       go true t f = inl (ltb-true n (zone_ticks precision minutes) t)
       go false t f =
           let l : zone_ticks precision minutes ≤ n = ltb-false n (zone_ticks precision minutes) t in
@@ -94,27 +94,27 @@ module _ (precision n minutes : ℕ) where
 
 -- ---- what is found can be written
 
-text_same : {a b : Moment} → Text a ≡ Text b → a ≡ b
+text_same : {a b : Moment} → Some a ≡ Some b → a ≡ b
 text_same e = cc
 
-pub found_writable : (form : Form) (p : List ℕ) {m : Moment} → lawful (form_shape form) p ≡ true → moment_of form p ≡ Text m → Writable m
+pub found_writable : (form : Form) (p : List ℕ) {m : Moment} → lawful (form_shape form) p ≡ true → moment_of form p ≡ Some m → Writable m
 unfolding moment_of
 found_writable Date2 p h e = subst Writable (text_same e) (date_field p h).day_last
 found_writable DateTime2 p {m} h e = go (dated (precision_in p) (stored_in p)) refl e
   where
-    go : (l : Local) → dated (precision_in p) (stored_in p) ≡ l → day_time_at (precision_in p) l ≡ Text m → Writable m
-    go (At x y) f g = subst Writable (text_same g) ((dated_placed (precision_in p) (stored_in p) f).in_calendar, (date_time_fields p h).fine)
-    go Outside f g = apart (cc)
+    go : (l : Option Local) → dated (precision_in p) (stored_in p) ≡ l → day_time_at (precision_in p) l ≡ Some m → Writable m
+    go (Some l) f g = subst Writable (text_same g) ((dated_placed (precision_in p) (stored_in p) {day = l.day} {ticks = l.ticks} f).in_calendar, (date_time_fields p h).fine)
+    go None f g = apart (cc)
 found_writable Time2 p h e = subst Writable (text_same e) (time_only_fields p h).fine
 found_writable DateTimeOffset p {m} h e = go (local_in p) refl e
   where
-    go : (l : Local) → local_in p ≡ l → zoned_at (precision_in p) (is_west (zone_in p)) (minutes_of (zone_in p)) l ≡ Text m → Writable m
-    go (At x y) f g =
+    go : (l : Option Local) → local_in p ≡ l → zoned_at (precision_in p) (is_west (zone_in p)) (minutes_of (zone_in p)) l ≡ Some m → Writable m
+    go (Some l) f g =
         subst Writable (text_same g)
-        ((local_moved (precision_in p) (stored_in p) (minutes_of (zone_in p)) (is_west (zone_in p)) f).in_calendar, (zoned_fields p h).time.fine)
-    go Outside f g = apart (cc)
+        ((local_moved (precision_in p) (stored_in p) (minutes_of (zone_in p)) (is_west (zone_in p)) {day = l.day} {ticks = l.ticks} f).in_calendar, (zoned_fields p h).time.fine)
+    go None f g = apart (cc)
 found_writable Milliseconds p {m} h e = go (ltb (little p / 4) (per_day 3)) e
   where
-    go : (b : Bool) → cond b (Text (Time 3 (little p / 4))) NoText ≡ Text m → Writable m
+    go : (b : Bool) → cond b (Some (Time 3 (little p / 4))) None ≡ Some m → Writable m
     go true g = subst Writable (text_same g) (lit≤ tt)
     go false g = apart (cc)

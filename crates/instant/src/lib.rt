@@ -24,18 +24,11 @@ pub enum Form {
     Milliseconds,
 }
 
-// What a payload means, or that it has no text.
+// A day and the time of that day.
 #[derive(Clone, Copy)]
-pub enum Found {
-    Text(Moment),
-    NoText,
-}
-
-// A day and the time of that day, or a date that the calendar has not.
-#[derive(Clone, Copy)]
-pub enum Local {
-    At(u32, u64),
-    Outside,
+pub struct Local {
+    pub day: u32,
+    pub ticks: u64,
 }
 
 // Precision, time and date as they are stored; the time may have any number of whole days.
@@ -46,7 +39,7 @@ struct Stored {
     day: u64,
 }
 
-// A zone: so many minutes, west of UTC or not.
+// A zone: so many minutes, west of UTC or not. Not one signed number: the sign and the minutes are written apart.
 #[derive(Clone, Copy)]
 struct Zone {
     minus: bool,
@@ -121,28 +114,31 @@ fn since_first(precision: usize, day: u64, ticks: u64) -> u64
     day * per_day(precision) + ticks
 }
 
-// Date and time of day after so many ticks.
-fn date_at(precision: usize, n: u64) -> Local
+// Date and time of day after so many ticks, or none where the calendar has no such date.
+fn date_at(precision: usize, n: u64) -> Option<Local>
     requires { precision ≤ 7 }
     ensures { result ≡ dated precision n }
 {
     let whole = per_day(precision);
     let day = n / whole;
-    if (calendar::LAST_DAY as u64) < day {
-        return Local::Outside;
+    if u64::from(calendar::LAST_DAY) < day {
+        return None;
     }
-    Local::At(day as u32, n % whole)
+    Some(Local {
+        day: day as u32,
+        ticks: n % whole,
+    })
 }
 
 // The same in the local time of a zone.
-fn local_at(precision: usize, n: u64, minus: bool, minutes: u64) -> Local
+fn local_at(precision: usize, n: u64, minus: bool, minutes: u64) -> Option<Local>
     requires { (precision ≤ 7) × (n < 4000000000000000000) × (minutes ≤ 840) }
     ensures { result ≡ local_of precision n minus minutes }
 {
     let zone = minutes * 60 * moment::ten_to(precision);
     if minus {
         if n < zone {
-            return Local::Outside;
+            return None;
         }
         return date_at(precision, n - zone);
     }
@@ -151,75 +147,71 @@ fn local_at(precision: usize, n: u64, minus: bool, minutes: u64) -> Local
 
 // ---- what each kind of payload means
 
-fn date(p: &[u8]) -> Found
+fn date(p: &[u8]) -> Option<Moment>
     requires { lawful (form_shape Form.Date2) p.now ≡ true }
     ensures { result ≡ moment_of Form.Date2 p.now }
 {
     let day = chunks::little_at(p, 0, DATE_BYTES);
-    Found::Text(Moment::Day(day as u32))
+    Some(Moment::Day(day as u32))
 }
 
-fn date_time(p: &[u8]) -> Found
+fn date_time(p: &[u8]) -> Option<Moment>
     requires { lawful (form_shape Form.DateTime2) p.now ≡ true }
     ensures { result ≡ moment_of Form.DateTime2 p.now }
 {
     let s = fields_of(p);
-    match date_at(s.precision, since_first(s.precision, s.day, s.ticks)) {
-        Local::At(day, ticks) => Found::Text(Moment::DayTime {
-            day,
-            precision: s.precision,
-            ticks,
-        }),
-        Local::Outside => Found::NoText,
-    }
+    let local = date_at(s.precision, since_first(s.precision, s.day, s.ticks))?;
+    Some(Moment::DayTime {
+        day: local.day,
+        precision: s.precision,
+        ticks: local.ticks,
+    })
 }
 
-fn time(p: &[u8]) -> Found
+fn time(p: &[u8]) -> Option<Moment>
     requires { lawful (form_shape Form.Time2) p.now ≡ true }
     ensures { result ≡ moment_of Form.Time2 p.now }
 {
     let s = fields_of(p);
-    Found::Text(Moment::Time {
+    Some(Moment::Time {
         precision: s.precision,
         ticks: s.ticks % per_day(s.precision),
     })
 }
 
-fn date_time_offset(p: &[u8]) -> Found
+fn date_time_offset(p: &[u8]) -> Option<Moment>
     requires { lawful (form_shape Form.DateTimeOffset) p.now ≡ true }
     ensures { result ≡ moment_of Form.DateTimeOffset p.now }
 {
     let s = fields_of(p);
     let zone = zone_of(p);
     let utc = since_first(s.precision, s.day, s.ticks);
-    match local_at(s.precision, utc, zone.minus, zone.minutes) {
-        Local::At(day, ticks) => Found::Text(Moment::Zoned {
-            day,
-            precision: s.precision,
-            ticks,
-            minus: zone.minus,
-            minutes: zone.minutes,
-        }),
-        Local::Outside => Found::NoText,
-    }
+    let local = local_at(s.precision, utc, zone.minus, zone.minutes)?;
+    Some(Moment::Zoned {
+        day: local.day,
+        precision: s.precision,
+        ticks: local.ticks,
+        minus: zone.minus,
+        minutes: zone.minutes,
+    })
 }
 
-fn milliseconds(p: &[u8]) -> Found
+fn milliseconds(p: &[u8]) -> Option<Moment>
     requires { lawful (form_shape Form.Milliseconds) p.now ≡ true }
     ensures { result ≡ moment_of Form.Milliseconds p.now }
 {
     let ticks = chunks::word_of(p) / 4;
-    if ticks < MILLISECONDS_OF_DAY {
-        return Found::Text(Moment::Time {
-            precision: 3,
-            ticks,
-        });
+    if MILLISECONDS_OF_DAY <= ticks {
+        return None;
     }
-    Found::NoText
+    Some(Moment::Time {
+        precision: 3,
+        ticks,
+    })
 }
 
 // The date and time of a payload that obeys the rule of its token.
-pub fn moment_of(form: Form, p: &[u8]) -> Found
+pub fn moment_of(form: Form, p: &[u8]) -> Option<Moment>
     requires { lawful (form_shape form) p.now ≡ true }
     ensures { result ≡ moment_of form p.now }
 {

@@ -85,6 +85,7 @@ fn list_tables(
 // Fills the three tables as reading does, and then the list. The meanings are rendered into the smallest of three arrays that
 // has room for every document of this size, so that a small document does not pay for clearing the largest. The local arrays
 // stand in one frame: they take 1.4 MB of the stack for every document (README.md, "Stack").
+// Three calls written out: with a generic function between, for one array's length each, a listing is slower (docs/PERFORMANCE.md, "Listing").
 pub fn list(
     doc: &[u8],
     names: &mut [u32],

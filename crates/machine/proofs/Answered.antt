@@ -6,19 +6,20 @@ use native.Mathlib.Omega.{arith}
 use lib.ListN.{length}
 use Rattle.sequences.specs.Arrays.{Every, none, first}
 use Rattle.sequences.proofs.Members.{every_append, every_weaken}
+use Rattle.std.specs.Prelude.{Result, Ok}
+use Rattle.token.specs.declared.Refusal as tokens
 use Rattle.token.specs.Tokens.{accepted, too_long, no_row, longest}
 use Rattle.modes.specs.declared.View.{View}
 use Rattle.scan.specs.Bounds.{Fine}
 use Rattle.scan.specs.declared.Room.{Room}
 use Rattle.scan.specs.declared.Step.{Step}
-use Rattle.scan.specs.declared.Step.TheVariants as step
 use Rattle.scan.proofs.Fine.{found_fine}
 use Rattle.machine.specs.Machine.{NameRow, Scope, State, view, returned, apply, reading, read_answer, Reads}
 use Rattle.machine.specs.Facts as facts
 use Rattle.machine.specs.Facts.{NameFits}
 use Rattle.machine.specs.Answered.{Answered}
 use Rattle.machine.specs.declared.Answer.{Answer}
-use Rattle.machine.proofs.Goes.{Goes}
+use Rattle.machine.proofs.Goes.{Goes, Halts, ended, refused}
 use Rattle.machine.proofs.Trace.{kept}
 use Rattle.machine.proofs.Found as found
 use Rattle.machine.proofs.Found.{Found, found_step}
@@ -34,11 +35,11 @@ record Told (size at number place : ℕ) : Type 0 where
   not_long : number ≡ too_long → ⊥
   at_end : number ≡ accepted → place ≡ size
 
-told : {doc : List ℕ} {v : View} {room : Room} {number place : ℕ} → Found doc v room (step.Stop number place) → Told (length doc) v.at number place
-told (found.stop r) =
+told : {doc : List ℕ} {v : View} {room : Room} {number place : ℕ} {x : Result Step tokens.Refusal} → Halts number place x → Found doc v room x → Told (length doc) v.at number place
+told refused (found.stop r) =
     let s = r.some in
     record { known = r.known; inside = r.inside; from = r.from; not_long = λ e. omega arith; at_end = λ e. absurd (let q : ⊥ = omega arith in q) }
-told (found.ended l d e c) =
+told ended (found.ended l d e c) =
     record { known = omega arith; inside = omega arith; from = λ h. h; not_long = λ h. omega arith; at_end = λ h. refl }
 
 -- ---- names end before the place that is reached
@@ -53,8 +54,7 @@ returned_end : (s : State) (os : List Scope) (next : ℕ) → s.at ≤ next → 
 returned_end s [] next h e = e
 returned_end s (o ∷ os) next h e = fits_on h e
 
-names_end : (doc : List ℕ) (room : Room) (s : State) (x : Step) → Goes x → Fine (length doc) (view s) room x → Found doc (view s) room x → NamesEnd s → NamesEnd (apply s x)
-names_end doc room s x g f (found.stop r) e = absurd g
+names_end : (doc : List ℕ) (room : Room) (s : State) (x : Step) → Goes x → Fine (length doc) (view s) room x → Found doc (view s) room (Ok x) → NamesEnd s → NamesEnd (apply s x)
 names_end doc room s x g f (found.ended l d n c) e = absurd g
 names_end doc room s x g f (found.name_def t i r) e = every_append (fits_on (omega arith) e) (first (record { inside = omega arith }) none)
 names_end doc room s x g f (found.qname_def t a b c r) e = fits_on (omega arith) e
@@ -93,7 +93,7 @@ answered doc room =
       names_before = none;
       events_before = facts.none;
     })
-    (λ version next w. let t = told (found_step doc (view (reading doc room).final) room w.stop) in
+    (λ version next w. let t = told w.halts (found_step doc (view (reading doc room).final) room w.stop) in
     let p = t.from w.within in
     let a : length (reading doc room).final.names ≤ length (reading doc room).final.names = omega arith in
     let b : length (reading doc room).final.qnames ≤ length (reading doc room).final.qnames = omega arith in

@@ -9,6 +9,7 @@ use lib.Dec.{ltb}
 use lib.ListN.{length}
 use borrow.Author.Tests.{ltb-true, eqb-true, lt-ltb, le-leb}
 use Rattle.sequences.proofs.Tests.{and_left, and_right}
+use Rattle.std.specs.Prelude.{Ok}
 use Rattle.token.specs.Tokens.{class_of}
 use Rattle.token.specs.declared.Class.{Class}
 use Rattle.token.specs.declared.Class.TheVariants as class
@@ -90,9 +91,8 @@ module _ (doc : List ℕ) (room : Room) (s : State) (i : check nothing_open s.ev
       let l : 1 < suc (suc (length (elements_of os))) = omega arith in
       by_event _ (rw (e, content_list _ c, content_section _ c, lt-ltb _ _ l, z))
 
-  balance_step : {x : Step} → Goes x → Found doc (view s) room x → check nothing_open (apply s x).events ≡ some (open_in (apply s x))
+  balance_step : {x : Step} → Goes x → Found doc (view s) room (Ok x) → check nothing_open (apply s x).events ≡ some (open_in (apply s x))
   unfolding class_of
-  balance_step g (found.stop n) = absurd g
   balance_step g (found.ended l d e c) = absurd g
   balance_step g (found.name_def t e r) = quiet
   balance_step g (found.qname_def t a b c r) = quiet

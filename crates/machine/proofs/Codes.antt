@@ -9,6 +9,8 @@ use lib.ListN.{length, get_or}
 use borrow.Author.Tests.{eqb-true}
 use Rattle.sequences.specs.Lists.{part}
 use Rattle.sequences.proofs.Tests.{cond_if, and_left, and_right}
+use Rattle.std.specs.Prelude.{Result, Ok, Err}
+use Rattle.token.specs.declared.Refusal.{Refusal}
 use Rattle.token.specs.Tokens.{Token, token, tokens, find, class_of, shape_of}
 use Rattle.token.specs.declared.Class.{Class}
 use Rattle.token.specs.declared.Class.TheVariants as class
@@ -16,14 +18,12 @@ use Rattle.token.specs.declared.Shape.{Shape}
 use Rattle.token.specs.declared.Shape.TheVariants.{Nothing, Fixed, Text, Blob, CodePage, Decimal, Qname, Stamp, Date, Time, ZonedTime}
 use Rattle.number.specs.Number.{number_at}
 use Rattle.number.specs.declared.Number.{Number}
-use Rattle.number.specs.declared.Number.TheVariants as number
 use Rattle.token.specs.declared.QnameNumber.{QnameNumber}
 use Rattle.rules.specs.Rules.{decimal_size, lawful}
 use Rattle.value.specs.Fields.{needed, text_payload, text_at, blob_after, decimal_after, time_field, qname_payload, extent_at, ruled, field_at}
 use Rattle.value.specs.declared.Text as declared
-use Rattle.value.specs.declared.Text.TheVariants as text
 use Rattle.value.specs.declared.Field.{Field}
-use Rattle.value.specs.declared.Field.TheVariants.{Payload, Reference, Refused}
+use Rattle.value.specs.declared.Field.TheVariants.{Payload, Reference}
 
 -- ---- codes
 
@@ -99,27 +99,27 @@ coded code e =
 -- ---- shapes
 
 -- a field that is a reference has the shape of one
-abbrev Refers : Shape → Field → Type 0
-Refers shape (Payload place size) = Unit
-Refers shape (Reference number next) = shape ≡ Qname
-Refers shape (Refused number place) = Unit
+abbrev Refers : Shape → Result Field Refusal → Type 0
+Refers shape (Ok (Payload place size)) = Unit
+Refers shape (Ok (Reference number next)) = shape ≡ Qname
+Refers shape (Err r) = Unit
 
 module _ (shape : Shape) (doc : List ℕ) where
   needed_refers : (place size : ℕ) → Refers shape (needed doc place size)
   unfolding needed
   needed_refers place size = cond_if (Refers shape) (leb (place + size) (length doc)) _ _ (λ t. tt) (λ t. tt)
 
-  text_refers : (t : declared.Text) → Refers shape (text_payload t)
-  text_refers (text.Is place units) = tt
-  text_refers (text.Refused number place) = tt
+  text_refers : (t : Result declared.Text Refusal) → Refers shape (text_payload t)
+  text_refers (Ok t) = tt
+  text_refers (Err r) = tt
 
-  blob_refers : (n : Number) → Refers shape (blob_after doc n)
-  blob_refers (number.Is size next) = needed_refers next size
-  blob_refers (number.Refused number place) = tt
+  blob_refers : (n : Result Number Refusal) → Refers shape (blob_after doc n)
+  blob_refers (Ok n) = needed_refers n.next n.value
+  blob_refers (Err r) = tt
 
-  decimal_refers : (at : ℕ) (n : Number) → Refers shape (decimal_after doc at n)
-  decimal_refers at (number.Is size next) = cond_if (Refers shape) (decimal_size size) _ _ (λ t. needed_refers next size) (λ t. tt)
-  decimal_refers at (number.Refused number place) = tt
+  decimal_refers : (at : ℕ) (n : Result Number Refusal) → Refers shape (decimal_after doc at n)
+  decimal_refers at (Ok n) = cond_if (Refers shape) (decimal_size n.value) _ _ (λ t. needed_refers n.next n.value) (λ t. tt)
+  decimal_refers at (Err r) = tt
 
   time_refers : (at more : ℕ) → Refers shape (time_field doc at more)
   unfolding time_field
@@ -128,14 +128,14 @@ module _ (shape : Shape) (doc : List ℕ) where
       (λ t. cond_if (Refers shape) (leb (get_or doc (at + 1) 0) 7) _ _ (λ u. needed_refers (at + 1) _) (λ u. tt))
       (λ t. tt)
 
-  ruled_refers : (at : ℕ) (f : Field) → Refers shape f → Refers shape (ruled shape doc at f)
-  ruled_refers at (Payload place size) h = cond_if (Refers shape) (lawful shape (part doc place size)) _ _ (λ t. tt) (λ t. tt)
-  ruled_refers at (Reference number next) h = h
-  ruled_refers at (Refused number place) h = tt
+  ruled_refers : (at : ℕ) (f : Result Field Refusal) → Refers shape f → Refers shape (ruled shape doc at f)
+  ruled_refers at (Ok (Payload place size)) h = cond_if (Refers shape) (lawful shape (part doc place size)) _ _ (λ t. tt) (λ t. tt)
+  ruled_refers at (Ok (Reference number next)) h = h
+  ruled_refers at (Err r) h = tt
 
-qname_refers : (n : Number) → Refers Qname (qname_payload n)
-qname_refers (number.Is value next) = refl
-qname_refers (number.Refused number place) = tt
+qname_refers : (n : Result Number Refusal) → Refers Qname (qname_payload n)
+qname_refers (Ok n) = refl
+qname_refers (Err r) = tt
 
 extent_refers : (shape : Shape) (doc : List ℕ) (at : ℕ) → Refers shape (extent_at shape doc at)
 unfolding extent_at
@@ -151,7 +151,7 @@ extent_refers (Date first last) doc at = needed_refers (Date first last) doc (at
 extent_refers (Time first last) doc at = time_refers (Time first last) doc at 3
 extent_refers (ZonedTime first last) doc at = time_refers (ZonedTime first last) doc at 5
 
-pub reference_shape : (shape : Shape) (doc : List ℕ) (at : ℕ) {n : QnameNumber} {next : ℕ} → field_at shape doc at ≡ Reference n next → shape ≡ Qname
+pub reference_shape : (shape : Shape) (doc : List ℕ) (at : ℕ) {n : QnameNumber} {next : ℕ} → field_at shape doc at ≡ Ok (Reference n next) → shape ≡ Qname
 unfolding field_at
 reference_shape shape doc at {n} {next} e =
-    subst (λ (f : Field). Refers shape f) e (ruled_refers shape doc at (extent_at shape doc at) (extent_refers shape doc at))
+    subst (λ (f : Result Field Refusal). Refers shape f) e (ruled_refers shape doc at (extent_at shape doc at) (extent_refers shape doc at))

@@ -73,7 +73,7 @@ returned_extends s [] next = extends_same s
 returned_extends s (o ∷ os) next = with_event _ refl refl refl
 
 step_extends : (s : State) (x : Step) → Extends s (apply s x)
-step_extends s (step.Stop number place) = extends_same s
+step_extends s (step.End place) = extends_same s
 step_extends s (step.Name place units next) =
     record { names = _ ∷ []; qnames = []; events = []; names_are = refl; qnames_are = sym (append-nil s.qnames); events_are = sym (append-nil s.events) }
 step_extends s (step.Qname uri prefix local next) =

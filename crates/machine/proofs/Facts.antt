@@ -10,6 +10,8 @@ use lib.ListN.{length, get_or, length-append}
 use borrow.Author.Tests.{eqb-true}
 use Rattle.sequences.specs.Arrays.{Every, none, first}
 use Rattle.sequences.proofs.Members.{every_append, every_weaken, every_get_d}
+use Rattle.std.specs.Prelude.{Result, Ok}
+use Rattle.token.specs.declared.Refusal.{Refusal}
 use Rattle.token.specs.Tokens.{class_of, shape_of}
 use Rattle.token.specs.declared.Class.{Class}
 use Rattle.token.specs.declared.Class.TheVariants as class
@@ -113,7 +115,7 @@ value_class_lem t found.version_2 e = inr e
 
 -- the one value that refers to a qname
 pub qname_code : {c : Class} (t : ℕ) (doc : List ℕ) (at : ℕ) {n : QnameNumber} {next : ℕ} → ValueClass c → class_of t ≡ c
-    → field_at (shape_of t) doc at ≡ field.Reference n next → t ≡ 0x8C
+    → field_at (shape_of t) doc at ≡ Ok (field.Reference n next) → t ≡ 0x8C
 qname_code t doc at found.any_version e f =
     let s = reference_shape (shape_of t) doc at f in let h = coded t e in eqb-true _ _ (rw s at h)
 qname_code t doc at found.version_2 e f =
@@ -220,8 +222,7 @@ module _ (doc : List ℕ) (s : State) (i : Sound doc s) where
       (omega arith) (known_here elements)
 
 module _ (doc : List ℕ) (room : Room) (s : State) (i : Sound doc s) where
-  pub sound_step : {x : Step} → Goes x → Fine (length doc) (view s) room x → Found doc (view s) room x → Sound doc (apply s x)
-  sound_step g f (found.stop n) = absurd g
+  pub sound_step : {x : Step} → Goes x → Fine (length doc) (view s) room x → Found doc (view s) room (Ok x) → Sound doc (apply s x)
   sound_step g f (found.ended l d e c) = absurd g
   sound_step g f (found.name_def {place = place} {units = units} t e r) = sound_name doc s i _ place units _ (omega arith) f.2
   sound_step g f (found.qname_def {uri = uri} {prefix = prefix} {local = local} t a b c r) =
@@ -251,11 +252,11 @@ module _ (doc : List ℕ) (room : Room) (s : State) (i : Sound doc s) where
   sound_step g f (found.close t r) =
       sound_event doc s i _ _ _ (s.at + 1) _ (omega arith) (facts.bare refl) (omega arith) (known_here doc s i (s.here.elements - 1))
   sound_step g f (found.pi {target = target} {start = start} {place = place} {units = units} t n e r) =
-      let w = subst (λ (x : Name). NameWithin (length doc) (s.at + 1) (length s.here.names) x) n (name_within (length s.here.names) doc (s.at + 1)) in
+      let w = subst (λ (x : Result Name Refusal). NameWithin (length doc) (s.at + 1) (length s.here.names) x) n (name_within (length s.here.names) doc (s.at + 1)) in
       sound_event doc s i _ _ s.here (place + 2 * units) _ (omega arith)
       (facts.pi (row_in i.here.names_are target.0 f.2) (let l : s.at < start = omega arith in l) e) (omega arith) i.here
   sound_step g f (found.nest {version = version} {next = next} t d e r) =
-      let w = subst (λ (x : Header). HeaderWithin (length doc) (s.at + 1) x) e (header_within doc (s.at + 1)) in
+      let w = subst (λ (x : Result Header Refusal). HeaderWithin (length doc) (s.at + 1) x) e (header_within doc (s.at + 1)) in
       let l : s.at + 6 ≤ next = omega arith in
       let p : s.at ≤ s.at = omega arith in
       record {

@@ -4,7 +4,9 @@ use mathlib.Core.Path.{◌≡◌, sym, ◌∙◌, ap}
 use mathlib.Core.List.{List}
 use lib.ListN.{length}
 use Rattle.sequences.proofs.Tests.{tests}
+use Rattle.std.specs.Prelude.{Result}
 use Rattle.token.specs.Tokens.{too_long, longest}
+use Rattle.token.specs.declared.Refusal.{Refusal}
 use Rattle.fields.specs.Fields.{header_at}
 use Rattle.fields.specs.declared.Header.{Header}
 use Rattle.scan.specs.declared.Room.{Room}
@@ -15,7 +17,7 @@ module _ (doc : List ℕ) (room : Room) where
   unfolding reading
   too_long_fact h = simp (tests, h)
 
-  module _ (short : length doc ≤ longest) {r h : Header} (e : r ≡ header_at doc 0) (g : r ≡ h) where
+  module _ (short : length doc ≤ longest) {r h : Result Header Refusal} (e : r ≡ header_at doc 0) (g : r ≡ h) where
     pub header_on : begun doc room h ≡ reading doc room
     unfolding reading
     header_on = ap (begun doc room) (sym g ∙ e) ∙ simp (tests, short)

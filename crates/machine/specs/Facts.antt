@@ -1,10 +1,9 @@
 -- What the rows of a reading are (01, "Rows"): each row says what stands in the document, and the events stand in order.
-use Rattle.std.specs.Prelude.{ℕ, ◌+◌, ◌*◌, ◌≤◌, ◌<◌, ◌≡◌, ◌⊎◌, Bool, true, false, ◌||◌, List, [], ◌∷◌, ◌++◌, eqb, length}
+use Rattle.std.specs.Prelude.{ℕ, ◌+◌, ◌*◌, ◌≤◌, ◌<◌, ◌≡◌, ◌⊎◌, Bool, true, false, ◌||◌, List, [], ◌∷◌, ◌++◌, eqb, length, Ok}
 use Rattle.sequences.specs.Arrays.{Every}
 use Rattle.token.specs.Tokens.{mb32, class_of, shape_of, XMLDECL_TOKEN, ENCODING_TOKEN, DOCTYPEDECL_TOKEN, SYSTEM_TOKEN, PUBLIC_TOKEN, SUBSET_TOKEN, COMMENT_TOKEN, CDATA_TOKEN, ELEMENT_TOKEN, ATTRIBUTE_TOKEN, XSD_QNAME, ENDELEMENT_TOKEN, ENDATTRIBUTES_TOKEN, CDATAEND_TOKEN, ENDNEST_TOKEN, PI_TOKEN, NEST_TOKEN}
 use Rattle.token.specs.declared.Class.TheVariants as class
-use Rattle.value.specs.Fields.{text_at, field_at}
-use Rattle.value.specs.declared.Text.TheVariants as text
+use Rattle.value.specs.Fields.{text, text_at, field_at}
 use Rattle.value.specs.declared.Field.TheVariants as field
 use Rattle.machine.specs.Machine.{NameRow, QnameRow, EventRow, event, State}
 
@@ -38,10 +37,10 @@ pub data EventFits (doc : List ℕ) (names qnames : ℕ) : EventRow → ℕ → 
   -- the standalone byte: its value
   standalone : {place value : ℕ} → value ≤ 2 → EventFits doc names qnames (event 0 place value 0) (place + 1)
   -- FE, FD, FC, FB, FA, F9, F3, F2: place of the text, units
-  texted : {token place a units : ℕ} → one_of text_tokens token ≡ true → text_at mb32 doc (place + 1) ≡ text.Is a units
+  texted : {token place a units : ℕ} → one_of text_tokens token ≡ true → text_at mb32 doc (place + 1) ≡ Ok (text a units)
       → EventFits doc names qnames (event token place a units) (a + 2 * units)
   -- F4: name row, place of the text's length
-  pi : {place row start p u : ℕ} → row ≤ names → place < start → text_at mb32 doc start ≡ text.Is p u
+  pi : {place row start p u : ℕ} → row ≤ names → place < start → text_at mb32 doc start ≡ Ok (text p u)
       → EventFits doc names qnames (event PI_TOKEN place row start) (p + 2 * u)
   -- F8, F6, 8C: qname row
   reference : {token place row next : ℕ} → one_of qname_tokens token ≡ true → 1 ≤ row → row ≤ qnames → place < next → next ≤ length doc
@@ -52,7 +51,7 @@ pub data EventFits (doc : List ℕ) (names qnames : ℕ) : EventRow → ℕ → 
   bare : {token place : ℕ} → one_of bare_tokens token ≡ true → EventFits doc names qnames (event token place 0 0) (place + 1)
   -- other values: place and size of the payload
   value : {token place a size : ℕ} → (class_of token ≡ class.Value) ⊎ (class_of token ≡ class.LaterValue)
-      → field_at (shape_of token) doc place ≡ field.Payload a size → EventFits doc names qnames (event token place a size) (a + size)
+      → field_at (shape_of token) doc place ≡ Ok (field.Payload a size) → EventFits doc names qnames (event token place a size) (a + size)
 
 -- events in the order of their places that do not overlap, all of them before a place
 pub data Placed (doc : List ℕ) (names qnames : ℕ) : List EventRow → ℕ → Type 0 where

@@ -1,11 +1,13 @@
 -- Reading, from left to right (01, "Document rules", "Rows", "Answer numbers"): what is open, what each token does, the
 -- machine that takes one token after the other, what reading promises, and the events of a reading.
-use Rattle.std.specs.Prelude.{ℕ, zero, suc, ◌+◌, ◌-◌, ◌/◌, min, ◌*◌, List, [], ◌∷◌, ◌++◌, map, cond, ltb, eqb, length, get_or, ◌≡◌}
+use Rattle.std.specs.Prelude.{ℕ, zero, suc, ◌+◌, ◌-◌, ◌/◌, min, ◌*◌, List, [], ◌∷◌, ◌++◌, map, cond, ltb, eqb, length, get_or, ◌≡◌, Ok, Err}
+use Rattle.std.specs.Prelude as std
 use Rattle.std.proofs.Math.ListN.{get_elem?}
-use Rattle.token.specs.Tokens.{mb32, too_long, longest, name_rows, qname_rows, event_rows, name_width, qname_width, event_width, NEST_TOKEN, ENDNEST_TOKEN, ELEMENT_TOKEN, PI_TOKEN, ENDELEMENT_TOKEN, XSD_QNAME, class_of}
+use Rattle.token.specs.Tokens.{mb32, accepted, too_long, longest, name_rows, qname_rows, event_rows, name_width, qname_width, event_width, NEST_TOKEN, ENDNEST_TOKEN, ELEMENT_TOKEN, PI_TOKEN, ENDELEMENT_TOKEN, XSD_QNAME, class_of}
+use Rattle.token.specs.Faults.{number_of}
+use Rattle.token.specs.declared.Refusal.{Refusal}
 use Rattle.fields.specs.Fields.{header_at}
 use Rattle.fields.specs.declared.Header.{Header}
-use Rattle.fields.specs.declared.Header.TheVariants as header
 use Rattle.modes.specs.Modes.{after_metadata, after_misc}
 use Rattle.scan.specs.Steps.{step_at}
 use Rattle.modes.specs.declared.Mode.{Mode}
@@ -21,7 +23,6 @@ use Rattle.token.specs.declared.Class.{Class}
 use Rattle.token.specs.declared.Class.TheVariants as class
 use Rattle.value.specs.Fields.{text_at}
 use Rattle.value.specs.declared.Text.{Text}
-use Rattle.value.specs.declared.Text.TheVariants as text
 
 -- ---- the rows of the three tables (01, "Rows"), and how they stand in a table of numbers
 
@@ -145,7 +146,7 @@ returned s (o ∷ os) next = state next Content o os s.names s.qnames (s.events 
 
 -- what a step does
 abbrev pub apply : State → Step → State
-apply s (step.Stop number place) = s
+apply s (step.End place) = s
 apply s (step.Name place units next) =
     state next (after_metadata s.mode)
     (scope s.here.version (s.here.names ++ ((length s.names + 1) ∷ [])) s.here.qnames s.here.elements)
@@ -180,19 +181,20 @@ abbrev pub result : ℕ → ℕ → ℕ → State → Result
 result number place version final = record { number = number; place = place; version = version; final = final }
 
 -- the machine stops, or goes on in the next state
-abbrev pub continued : ℕ → State → (State → Result) → Step → Result
-continued version s onward (step.Stop number place) = result number place version s
-continued version s onward (step.Name place units next) = onward (apply s (step.Name place units next))
-continued version s onward (step.Qname uri prefix local next) = onward (apply s (step.Qname uri prefix local next))
-continued version s onward (step.Skip next) = onward (apply s (step.Skip next))
-continued version s onward (step.Flush next) = onward (apply s (step.Flush next))
-continued version s onward (step.Event token a b mode next) = onward (apply s (step.Event token a b mode next))
-continued version s onward (step.Refer token number mode next) = onward (apply s (step.Refer token number mode next))
-continued version s onward (step.Open number next) = onward (apply s (step.Open number next))
-continued version s onward (step.Pi target start next) = onward (apply s (step.Pi target start next))
-continued version s onward (step.Close next) = onward (apply s (step.Close next))
-continued version s onward (step.Nest version' next) = onward (apply s (step.Nest version' next))
-continued version s onward (step.Leave next) = onward (apply s (step.Leave next))
+abbrev pub continued : ℕ → State → (State → Result) → std.Result Step Refusal → Result
+continued version s onward (Ok (step.End place)) = result accepted place version s
+continued version s onward (Ok (step.Name place units next)) = onward (apply s (step.Name place units next))
+continued version s onward (Ok (step.Qname uri prefix local next)) = onward (apply s (step.Qname uri prefix local next))
+continued version s onward (Ok (step.Skip next)) = onward (apply s (step.Skip next))
+continued version s onward (Ok (step.Flush next)) = onward (apply s (step.Flush next))
+continued version s onward (Ok (step.Event token a b mode next)) = onward (apply s (step.Event token a b mode next))
+continued version s onward (Ok (step.Refer token number mode next)) = onward (apply s (step.Refer token number mode next))
+continued version s onward (Ok (step.Open number next)) = onward (apply s (step.Open number next))
+continued version s onward (Ok (step.Pi target start next)) = onward (apply s (step.Pi target start next))
+continued version s onward (Ok (step.Close next)) = onward (apply s (step.Close next))
+continued version s onward (Ok (step.Nest version' next)) = onward (apply s (step.Nest version' next))
+continued version s onward (Ok (step.Leave next)) = onward (apply s (step.Leave next))
+continued version s onward (Err r) = result (number_of r.fault) r.place version s
 
 -- at most so many steps; more than the document has bytes are never needed (`stops_reading`, proofs/Trace.antt), so 255 is never answered
 unfoldable pub run : ℕ → List ℕ → Room → ℕ → State → Result
@@ -206,9 +208,9 @@ blank = state 0 First (scope 0 [] [] 0) [] [] [] []
 abbrev pub started : ℕ → ℕ → State
 started version next = state next First (scope version [] [] 0) [] [] [] []
 
-abbrev pub begun : List ℕ → Room → Header → Result
-begun doc room (header.Is version next) = run (suc (length doc)) doc room version (started version next)
-begun doc room (header.Refused number place) = result number place 0 blank
+abbrev pub begun : List ℕ → Room → std.Result Header Refusal → Result
+begun doc room (Ok h) = run (suc (length doc)) doc room h.version (started h.version h.next)
+begun doc room (Err r) = result (number_of r.fault) r.place 0 blank
 
 -- reading a document into tables with this room; 1 is tested first
 unfoldable pub reading : List ℕ → Room → Result
@@ -282,9 +284,9 @@ qname_event doc names qnames token zero = plain token
 qname_event doc names qnames token (suc k) = qname_in doc names token (get_elem? qnames k)
 
 -- the text whose length stands at a place
-abbrev pub data_in : List ℕ → Text → List ℕ
-data_in doc (text.Is place units) = part doc place (2 * units)
-data_in doc (text.Refused number place) = []
+abbrev pub data_in : List ℕ → std.Result Text Refusal → List ℕ
+data_in doc (Ok t) = part doc t.place (2 * t.units)
+data_in doc (Err r) = []
 
 -- by the token's class; token 0 is the standalone byte, 8C refers to a qname
 abbrev pub event_by : Class → List ℕ → List NameRow → List QnameRow → EventRow → Event

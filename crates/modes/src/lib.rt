@@ -2,35 +2,12 @@
 #![tactic(auto)]
 
 ghost use Rattle.std.specs.Prelude.{◌≡◌, ◌<◌, ◌&&◌, ◌||◌};
-ghost use Rattle.modes.specs.Modes.{mode_number, allowed, after_metadata, after_misc, after_value};
+ghost use Rattle.modes.specs.Modes.{allowed, after_metadata, after_misc, after_value};
 
 use token::Class;
 
-// Modes by their numbers, to compare two of them: up to AFTER_PUBLIC content may stand, up to ATTRIBUTES values and metadata.
-const CONTENT: usize = 0;
-
-const TAG: usize = 1;
-
-const FIRST: usize = 2;
-
-const PROLOG: usize = 3;
-
-const AFTER_DOCTYPE: usize = 4;
-
-const AFTER_SYSTEM: usize = 5;
-
-pub const AFTER_PUBLIC: usize = 6;
-
-const ATTRIBUTES: usize = 7;
-
-const CDATA: usize = 8;
-
-pub const AFTER_XMLDECL: usize = 9;
-
-const AFTER_ENCODING: usize = 10;
-
-// What may come next.
-#[derive(Clone, Copy)]
+// What may come next. The order counts: content stands in the modes up to AfterPublic, values and metadata in those up to Attributes.
+#[derive(Clone, Copy, PartialEq, Eq, PartialOrd, Ord)]
 pub enum Mode {
     Content,
     // after an ELEMENT's number
@@ -69,39 +46,13 @@ pub struct View {
     pub events: usize,
 }
 
-pub fn mode_number(mode: Mode) -> usize
-    ensures { result ≡ mode_number mode }
-{
-    match mode {
-        Mode::Content => CONTENT,
-        Mode::Tag => TAG,
-        Mode::First => FIRST,
-        Mode::Prolog => PROLOG,
-        Mode::AfterDocType => AFTER_DOCTYPE,
-        Mode::AfterSystem => AFTER_SYSTEM,
-        Mode::AfterPublic => AFTER_PUBLIC,
-        Mode::Attributes => ATTRIBUTES,
-        Mode::Cdata => CDATA,
-        Mode::AfterXmlDecl => AFTER_XMLDECL,
-        Mode::AfterEncoding => AFTER_ENCODING,
-    }
-}
-
 pub fn after_metadata(mode: Mode) -> Mode
     ensures { result ≡ after_metadata mode }
 {
     match mode {
-        Mode::Content => Mode::Content,
-        Mode::Tag => Mode::Tag,
-        Mode::First => Mode::Prolog,
-        Mode::Prolog => Mode::Prolog,
-        Mode::AfterDocType => Mode::Content,
-        Mode::AfterSystem => Mode::Content,
-        Mode::AfterPublic => Mode::Content,
-        Mode::Attributes => Mode::Attributes,
-        Mode::Cdata => Mode::Cdata,
-        Mode::AfterXmlDecl => Mode::AfterXmlDecl,
-        Mode::AfterEncoding => Mode::AfterEncoding,
+        Mode::First | Mode::Prolog => Mode::Prolog,
+        Mode::AfterDocType | Mode::AfterSystem | Mode::AfterPublic => Mode::Content,
+        _ => mode,
     }
 }
 
@@ -109,17 +60,8 @@ pub fn after_misc(mode: Mode) -> Mode
     ensures { result ≡ after_misc mode }
 {
     match mode {
-        Mode::Content => Mode::Content,
-        Mode::Tag => Mode::Content,
-        Mode::First => Mode::Prolog,
-        Mode::Prolog => Mode::Prolog,
-        Mode::AfterDocType => Mode::Content,
-        Mode::AfterSystem => Mode::Content,
-        Mode::AfterPublic => Mode::Content,
-        Mode::Attributes => Mode::Content,
-        Mode::Cdata => Mode::Content,
-        Mode::AfterXmlDecl => Mode::Content,
-        Mode::AfterEncoding => Mode::Content,
+        Mode::First | Mode::Prolog => Mode::Prolog,
+        _ => Mode::Content,
     }
 }
 
@@ -127,64 +69,35 @@ pub fn after_value(mode: Mode) -> Mode
     ensures { result ≡ after_value mode }
 {
     match mode {
-        Mode::Content => Mode::Content,
-        Mode::Tag => Mode::Content,
-        Mode::First => Mode::Content,
-        Mode::Prolog => Mode::Content,
-        Mode::AfterDocType => Mode::Content,
-        Mode::AfterSystem => Mode::Content,
-        Mode::AfterPublic => Mode::Content,
         Mode::Attributes => Mode::Attributes,
-        Mode::Cdata => Mode::Content,
-        Mode::AfterXmlDecl => Mode::Content,
-        Mode::AfterEncoding => Mode::Content,
+        _ => Mode::Content,
     }
 }
 
-pub fn both(a: bool, b: bool) -> bool
-    ensures { result ≡ (a && b) }
-{
-    if a { b } else { false }
-}
-
-fn either(a: bool, b: bool) -> bool
-    ensures { result ≡ (a || b) }
-{
-    if a { true } else { b }
-}
-
-// Whether a token of this class may stand at the view's place. Modes are told apart by their numbers.
+// Whether a token of this class may stand at the view's place.
 pub fn may_stand(class: Class, v: View) -> bool
     ensures { result ≡ allowed class v }
 {
     let mode = v.mode;
-    let m = mode_number(mode);
     match class {
-        Class::Unknown => false,
-        Class::Value => m <= ATTRIBUTES,
-        Class::LaterValue => both(m <= ATTRIBUTES, v.version == 2),
-        Class::XmlDecl => m == FIRST,
-        Class::Encoding => false,
-        Class::DocType => either(m == FIRST, m == PROLOG),
-        Class::System => m == AFTER_DOCTYPE,
-        Class::Public => either(m == AFTER_DOCTYPE, m == AFTER_SYSTEM),
-        Class::Subset => either(
-            either(m == AFTER_DOCTYPE, m == AFTER_SYSTEM),
-            m == AFTER_PUBLIC,
+        Class::Unknown | Class::Encoding => false,
+        Class::Value | Class::NameDef | Class::QnameDef => mode <= Mode::Attributes,
+        Class::Extension | Class::Flush => mode <= Mode::Attributes,
+        Class::LaterValue => mode <= Mode::Attributes && v.version == 2,
+        Class::XmlDecl => mode == Mode::First,
+        Class::DocType => matches!(mode, Mode::First | Mode::Prolog),
+        Class::System => mode == Mode::AfterDocType,
+        Class::Public => matches!(mode, Mode::AfterDocType | Mode::AfterSystem),
+        Class::Subset => matches!(
+            mode,
+            Mode::AfterDocType | Mode::AfterSystem | Mode::AfterPublic
         ),
-        Class::Element => m <= AFTER_PUBLIC,
-        Class::EndElement => both(m <= AFTER_PUBLIC, 0 < v.elements),
-        Class::Attribute => either(m == TAG, m == ATTRIBUTES),
-        Class::EndAttributes => m == ATTRIBUTES,
-        Class::Pi => m <= AFTER_PUBLIC,
-        Class::Comment => m <= AFTER_PUBLIC,
-        Class::Cdata => either(m <= AFTER_PUBLIC, m == CDATA),
-        Class::CdataEnd => m == CDATA,
-        Class::NameDef => m <= ATTRIBUTES,
-        Class::QnameDef => m <= ATTRIBUTES,
-        Class::Nest => m <= AFTER_PUBLIC,
-        Class::EndNest => both(both(m <= AFTER_PUBLIC, 0 < v.depth), v.elements == 0),
-        Class::Extension => m <= ATTRIBUTES,
-        Class::Flush => m <= ATTRIBUTES,
+        Class::Element | Class::Pi | Class::Comment | Class::Nest => mode <= Mode::AfterPublic,
+        Class::EndElement => mode <= Mode::AfterPublic && 0 < v.elements,
+        Class::Attribute => matches!(mode, Mode::Tag | Mode::Attributes),
+        Class::EndAttributes => mode == Mode::Attributes,
+        Class::Cdata => mode <= Mode::AfterPublic || mode == Mode::Cdata,
+        Class::CdataEnd => mode == Mode::Cdata,
+        Class::EndNest => mode <= Mode::AfterPublic && 0 < v.depth && v.elements == 0,
     }
 }

@@ -37,7 +37,7 @@ length_day_time day precision ticks =
     let b = length_clock precision ticks in
     simp length-append (omega arith)
 
-length_zone : (minus : Bool) (minutes : ℕ) → length (zone_text minus minutes) ≡ 6
+pub length_zone : (minus : Bool) (minutes : ℕ) → length (zone_text minus minutes) ≡ 6
 unfolding zone_text
 length_zone minus minutes =
     let a = length_last_digits 2 (minutes / 60) in

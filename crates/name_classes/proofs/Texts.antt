@@ -1,11 +1,11 @@
 -- The hash of a text, unit after unit, and texts with different hashes. Assumes nothing.
 use Prim.Native.Nat.{ℕ, ◌+◌, ◌*◌, ◌/◌, ◌≤◌, ◌<◌}
 use mathlib.Core.Path.{◌≡◌, refl, sym, ap, ◌∙◌}
-use mathlib.Core.Bool.{false}
+use mathlib.Core.Bool.{Bool, true, false}
 use mathlib.Core.List.{List}
 use lib.ListN.{length, get_or, drop}
 use Rattle.sequences.specs.Lists.{units_of, same}
-use Rattle.sequences.proofs.Same.{not_same}
+use Rattle.sequences.proofs.Same.{not_same, same_true, same_list}
 use Rattle.sequences.proofs.Units.{unit_step, unit_end}
 use Rattle.hash.specs.Hash.{mix_of, hash_from, seed}
 use Rattle.name_classes.specs.Texts.{text_hash}
@@ -30,3 +30,7 @@ module _ (text : List ℕ) where
 -- texts with different hashes
 pub texts_differ : (s t : List ℕ) (g h : ℕ) → g ≡ text_hash s → h ≡ text_hash t → (g ≡ h → ⊥) → false ≡ same s t
 texts_differ s t g h a b n = not_same s t (λ e. n (a ∙ ap text_hash e ∙ sym b))
+
+-- what the test of two texts tells
+pub texts_told : (s t : List ℕ) (b : Bool) → b ≡ same s t → (b ≡ true → s ≡ t) × (s ≡ t → b ≡ true)
+texts_told s t b e = (λ h. same_true s t (sym e ∙ h), λ h. e ∙ (same_list s t).1 h)

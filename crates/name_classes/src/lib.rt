@@ -9,12 +9,9 @@ ghost use Rattle.machine.specs.Facts.{NameFits};
 ghost use Rattle.machine.specs.Tables.{name_rows_in, NamesInside};
 ghost use Rattle.classes.specs.Classes.{name_classes};
 ghost use Rattle.classes.specs.Search.{row_text_at};
-ghost use Rattle.classes.specs.Tree.{FirstAre, Tree, Spot};
+ghost use Rattle.classes.specs.Tree.{FirstAre};
 ghost use Rattle.token.specs.Tokens.{name_width, longest, name_rows};
 ghost use Rattle.name_classes.specs.Texts.{text_hash};
-
-// The slots, as a hash has them.
-const MODULUS: u64 = classes::SLOTS as u64;
 
 // The text of row `k` of names.
 fn row_text<'a>(doc: &'a [u8], names: &[u32], k: usize, n: usize) -> &'a [u8]
@@ -30,13 +27,10 @@ fn row_text<'a>(doc: &'a [u8], names: &[u32], k: usize, n: usize) -> &'a [u8]
 fn hash_of(text: &[u8]) -> u64
     ensures { result ≡ text_hash text.now }
 {
-    let n = text.len() / 2;
     let mut h = hash::SEED;
-    let mut k = 0;
-    while k < n {
-        let unit = slices::wide32(text[2 * k]) + 256 * slices::wide32(text[2 * k + 1]);
+    for k in 0..text.len() / 2 {
+        let unit = u32::from(text[2 * k]) + 256 * u32::from(text[2 * k + 1]);
         h = hash::mix(h, unit);
-        k += 1;
     }
     h
 }
@@ -57,37 +51,7 @@ fn same_row(
     if hashes[j] != h {
         return false;
     }
-    slices::same_bytes(
-        row_text(doc, names, j, r + 1),
-        row_text(doc, names, r, r + 1),
-    )
-}
-
-// The place of the tree for the text of row `r` of names, whose hash is `h`: where an earlier row with that text stands, or none.
-fn find_name(
-    doc: &[u8],
-    names: &[u32],
-    hashes: &[u64; token::NAME_ROWS],
-    tree: &[u16; classes::PLACES],
-    r: usize,
-    h: u64,
-) -> usize
-    requires { NamesInside doc.now names.now (r + 1) × FirstAre (λ k. text_hash (row_text_at doc.now names.now k)) r hashes.now
-        × Tree text_hash (row_text_at doc.now names.now) r tree.now × (h ≡ text_hash (row_text_at doc.now names.now r)) }
-    ensures { Spot text_hash (row_text_at doc.now names.now) r tree.now result }
-{
-    let mut bits = h;
-    let mut p = (h % MODULUS) as usize;
-    let mut j = tree[p] as usize;
-    while j < token::NAME_ROWS {
-        if same_row(doc, names, hashes, j, r, h) {
-            return p;
-        }
-        p = classes::SLOTS + 2 * j + (bits % 2) as usize;
-        bits = bits / 2;
-        j = tree[p] as usize;
-    }
-    p
+    row_text(doc, names, j, r + 1) == row_text(doc, names, r, r + 1)
 }
 
 // The class of row `r` of names where no earlier row has its text: 0 for the empty text.
@@ -112,15 +76,13 @@ pub fn name_classes(doc: &[u8], names: &[u32], count: usize, classes: &mut [u32;
     // is stored by vector instructions, not by memset.
     let mut tree = [classes::NO_ROW; classes::PLACES];
     let mut hashes = [1u64; token::NAME_ROWS];
-    let mut r: usize = 0;
-    while r < count {
+    for r in 0..count {
         let h = hash_of(row_text(doc, names, r, count));
-        let p = find_name(doc, names, &hashes, &tree, r, h);
-        let j = tree[p] as usize;
+        let p = classes::find(&tree, r, h, |j| same_row(doc, names, &hashes, j, r, h));
+        let j = usize::from(tree[p]);
         let own = own_class(names, r);
         classes[r] = classes::class_or(classes, j, own);
         hashes[r] = h;
         classes::put_row(&mut tree, p, r);
-        r += 1;
     }
 }

@@ -7,10 +7,12 @@ use native.Mathlib.Omega.{arith}
 use lib.ListN.{length, get_or, drop, drop_of_length-le}
 use lib.Seq.{drop-cons}
 use Rattle.sequences.proofs.Tests.{tests}
-use Rattle.token.specs.Tokens.{missing, bad_number, largest}
-use Rattle.number.specs.Number.{NumberFront, spelled, unended, cut, after, front, number_judged, number_at}
+use Rattle.std.specs.Prelude.{Ok, Err}
+use Rattle.token.specs.Tokens.{largest}
+use Rattle.token.specs.Faults.{refusal}
+use Rattle.token.specs.declared.Fault.TheVariants.{Missing, BadNumber}
+use Rattle.number.specs.Number.{NumberFront, spelled, unended, cut, after, front, number, number_judged, number_at}
 use Rattle.number.specs.Bounds.{Within}
-use Rattle.number.specs.declared.Number.TheVariants.{Is, Refused}
 use Rattle.number.proofs.Capped.{sum_capped, unit_capped, regrouped}
 
 -- a front read after some bytes that say `sum`, where a one in its first byte counts `unit`
@@ -76,13 +78,13 @@ going_start most doc at =
 
 module _ {most : ℕ} {doc : List ℕ} {at value scale next left : ℕ} (g : Going most doc at value scale next left) where
   -- no byte below 80 hex among those allowed
-  pub too_many : left ≡ 0 → (Refused bad_number at ≡ number_at most doc at) × Within (length doc) at (Refused bad_number at)
+  pub too_many : left ≡ 0 → (Err (refusal BadNumber at) ≡ number_at most doc at) × Within (length doc) at (Err (refusal BadNumber at))
   unfolding front
   too_many e = ((rw e at g.same), tt)
 
   -- the document ends inside the number
   pub too_short : (left ≡ 0 → ⊥) → length doc ≤ next
-      → (Refused missing (length doc) ≡ number_at most doc at) × Within (length doc) at (Refused missing (length doc))
+      → (Err (refusal Missing (length doc)) ≡ number_at most doc at) × Within (length doc) at (Err (refusal Missing (length doc)))
   too_short n h = (rw (drop_of_length-le doc h, front_cut left n) at g.same, tt)
 
   module _ (some : left ≡ 0 → ⊥) (inside : next < length doc) {b : ℕ} (byte : b ≡ get_or doc next 0) where
@@ -101,14 +103,14 @@ module _ {most : ℕ} {doc : List ℕ} {at value scale next left : ℕ} (g : Goi
       last_sum h = let e : b % 128 ≡ b = omega arith in rw e at grown_is
 
       -- the last byte, and the value is over the largest
-      pub too_large : b < 128 → largest < grown → (Refused bad_number at ≡ number_at most doc at) × Within (length doc) at (Refused bad_number at)
+      pub too_large : b < 128 → largest < grown → (Err (refusal BadNumber at) ≡ number_at most doc at) × Within (length doc) at (Err (refusal BadNumber at))
       too_large h l =
           let s = last_sum h in
           let over : largest < g.sum + b * g.unit = omega arith in
           (simp (tests, over) at (ended h), tt)
 
       -- the last byte
-      pub found : b < 128 → grown ≤ largest → (Is grown (next + 1) ≡ number_at most doc at) × Within (length doc) at (Is grown (next + 1))
+      pub found : b < 128 → grown ≤ largest → (Ok (number grown (next + 1)) ≡ number_at most doc at) × Within (length doc) at (Ok (number grown (next + 1)))
       found h l =
           let s = last_sum h in
           let exact : g.sum + b * g.unit ≡ grown = omega arith in

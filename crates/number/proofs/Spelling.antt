@@ -13,9 +13,12 @@ use lib.Dec.{ltb, leb}
 use Rattle.sequences.specs.Lists.{Bytes}
 use Rattle.sequences.proofs.Units.{bytes_first, bytes_rest}
 use Rattle.sequences.proofs.Tests.{tests}
-use Rattle.token.specs.Tokens.{bad_number, largest}
-use Rattle.number.specs.Number.{Spelling, low, high, value_of, NumberFront, spelled, unended, cut, after, front, number_judged, number_at, spell_in, shortest, size_of}
-use Rattle.number.specs.declared.Number.TheVariants.{Is, Refused}
+use Rattle.std.specs.Prelude.{Ok, Err}
+use Rattle.token.specs.Tokens.{largest}
+use Rattle.token.specs.Faults.{refusal}
+use Rattle.token.specs.declared.Fault.TheVariants.{BadNumber}
+use Rattle.number.specs.declared.Number.{Number}
+use Rattle.number.specs.Number.{Spelling, low, high, value_of, NumberFront, spelled, unended, cut, after, front, number, number_judged, number_at, spell_in, shortest, size_of}
 
 -- reading a spelling gives its value and uses its bytes, whatever follows
 pub reads_spelling : {most : ℕ} {s : List ℕ} (w : List ℕ) → Spelling most s → front most (s ++ w) ≡ spelled (value_of s) (length s)
@@ -64,22 +67,23 @@ value_spelled (suc most) (x ∷ l) {value} {size} b e =
     go false y n cut again h e = absurd (let z : ◌≡◌ {A = ℕ} 0 1 = cc in let q : ⊥ = omega arith in q)
 
 -- what a document has where a number was read: a spelling of its value, up to the place after it
-pub number_spelled : (most : ℕ) (doc : List ℕ) (at : ℕ) {value next : ℕ} → Bytes (drop at doc) → number_at most doc at ≡ Is value next
+pub number_spelled : (most : ℕ) (doc : List ℕ) (at : ℕ) {value next : ℕ} → Bytes (drop at doc) → number_at most doc at ≡ Ok (number value next)
     → Begins most (drop at doc) value (next - at) × (value ≤ largest) × (at ≤ next)
 unfolding number_at
 number_spelled most doc at {value} {next} b e = go (front most (drop at doc)) (λ v n h. value_spelled most (drop at doc) b h) refl e
   where
-    in_bounds : (t : Bool) (v n : ℕ) → t ≡ leb v largest → Begins most (drop at doc) v n → cond t (Is v (at + n)) (Refused bad_number at) ≡ Is value next
+    in_bounds : (t : Bool) (v n : ℕ) → t ≡ leb v largest → Begins most (drop at doc) v n → cond t (Ok (number v (at + n))) (Err (refusal BadNumber at)) ≡ Ok (number value next)
         → Begins most (drop at doc) value (next - at) × (value ≤ largest) × (at ≤ next)
     in_bounds true v n t r e =
-        let a : v ≡ value = cc in
-        let p : at + n ≡ next = cc in
+        let i : number v (at + n) ≡ number value next = cc in
+        let a : v ≡ value = ap (λ (k : Number). k.value) i in
+        let p : at + n ≡ next = ap (λ (k : Number). k.next) i in
         let s : n ≡ next - at = omega arith in
         (rw (a, s) at r, rw (← a) (leb-true v largest (sym t)), omega arith)
     in_bounds false v n t r e = absurd (let z : ◌≡◌ {A = ℕ} 0 1 = cc in let q : ⊥ = omega arith in q)
 
     go : (f : NumberFront) → ((v n : ℕ) → front most (drop at doc) ≡ spelled v n → Begins most (drop at doc) v n) → front most (drop at doc) ≡ f
-        → number_judged doc at f ≡ Is value next → Begins most (drop at doc) value (next - at) × (value ≤ largest) × (at ≤ next)
+        → number_judged doc at f ≡ Ok (number value next) → Begins most (drop at doc) value (next - at) × (value ≤ largest) × (at ≤ next)
     go (spelled v n) again h e = in_bounds (leb v largest) v n refl (again v n h) e
     go unended again h e = absurd (let z : ◌≡◌ {A = ℕ} 0 1 = cc in let q : ⊥ = omega arith in q)
     go cut again h e = absurd (let z : ◌≡◌ {A = ℕ} 0 1 = cc in let q : ⊥ = omega arith in q)
@@ -190,7 +194,7 @@ shortest_size value = go (dec_lt value 0x80) (dec_lt value 0x4000) (dec_lt value
 
 -- reading the shortest spelling gives the value back and uses exactly its bytes
 pub shortest_read : (most : ℕ) (doc : List ℕ) (at value : ℕ) (rest : List ℕ) → 5 ≤ most → value ≤ largest → drop at doc ≡ shortest value ++ rest
-    → number_at most doc at ≡ Is value (at + length (shortest value))
+    → number_at most doc at ≡ Ok (number value (at + length (shortest value)))
 unfolding number_at
 shortest_read most doc at value rest m h e =
     let s = reads_spelling rest (allowed_more most (shortest_spells value h) m) in

@@ -7,11 +7,14 @@ use native.Mathlib.Omega.{arith}
 use lib.Dec.{ltb, leb}
 use lib.ListN.{length, drop, length-drop}
 use borrow.Author.Tests.{leb-true}
-use Rattle.token.specs.Tokens.{largest, bad_number}
-use Rattle.number.specs.Number.{NumberFront, spelled, unended, cut, after, front, number_judged, number_at}
+use Rattle.std.specs.Prelude.{Result, Ok, Err}
+use Rattle.token.specs.Tokens.{largest}
+use Rattle.token.specs.Faults.{refusal}
+use Rattle.token.specs.declared.Fault.TheVariants.{BadNumber}
+use Rattle.token.specs.declared.Refusal.{Refusal}
+use Rattle.number.specs.Number.{NumberFront, spelled, unended, cut, after, front, number, number_judged, number_at}
 use Rattle.number.specs.Bounds.{Within}
 use Rattle.number.specs.declared.Number.{Number}
-use Rattle.number.specs.declared.Number.TheVariants.{Is, Refused}
 
 -- a spelling has a byte, and no more bytes than there are
 abbrev Fits : ℕ → NumberFront → Type 0
@@ -39,7 +42,7 @@ unfolding number_at
 number_within most doc at = go (front most (drop at doc)) (front_fits most (drop at doc))
   where
     in_bounds : (t : Bool) (value size : ℕ) → t ≡ leb value largest → (1 ≤ size) × (size ≤ length (drop at doc))
-        → Within (length doc) at (cond t (Is value (at + size)) (Refused bad_number at))
+        → Within (length doc) at (cond t (Ok (number value (at + size))) (Err (refusal BadNumber at)))
     in_bounds true value size t h = let d = length-drop at doc in (omega arith, omega arith, leb-true value largest (sym t))
     in_bounds false value size t h = tt
 
@@ -48,5 +51,5 @@ number_within most doc at = go (front most (drop at doc)) (front_fits most (drop
     go unended h = tt
     go cut h = tt
 
-pub is_within : (size at : ℕ) {r : Number} {value next : ℕ} → r ≡ Is value next → Within size at r → (at < next) × (next ≤ size) × (value ≤ largest)
-is_within size at e h = subst (λ (x : Number). Within size at x) e h
+pub is_within : (size at : ℕ) {r : Result Number Refusal} {n : Number} → r ≡ Ok n → Within size at r → (at < n.next) × (n.next ≤ size) × (n.value ≤ largest)
+is_within size at e h = subst (λ (x : Result Number Refusal). Within size at x) e h

@@ -1,8 +1,8 @@
 -- Serves the code. Bounds that a caller of `number::read` needs.
-use Rattle.std.specs.Prelude.{ℕ, ◌≤◌, ◌<◌}
+use Rattle.std.specs.Prelude.{ℕ, ◌≤◌, ◌<◌, Result, Ok, Err}
 use Rattle.token.specs.Tokens.{largest}
 use Rattle.number.specs.declared.Number.{Number}
-use Rattle.number.specs.declared.Number.TheVariants.{Is, Refused}
+use Rattle.token.specs.declared.Refusal.{Refusal}
 
 -- one past the largest value; and what a one counts past the bytes of any such value
 abbrev pub over_largest : ℕ
@@ -12,6 +12,6 @@ abbrev pub scale_end : ℕ
 scale_end = 34359738368
 
 -- bounds that a caller needs
-abbrev pub Within : ℕ → ℕ → Number → Type 0
-Within size at (Is value next) = (at < next) × (next ≤ size) × (value ≤ largest)
-Within size at (Refused number place) = Unit
+abbrev pub Within : ℕ → ℕ → Result Number Refusal → Type 0
+Within size at (Ok n) = (at < n.next) × (n.next ≤ size) × (n.value ≤ largest)
+Within size at (Err r) = Unit

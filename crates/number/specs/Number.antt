@@ -1,9 +1,11 @@
 -- Multi-byte numbers (004, section 2.3.2; 01, "Document rules"): what a spelling means, what stands at a place, and the
 -- shortest spelling of a value.
-use Rattle.std.specs.Prelude.{ℕ, zero, suc, ◌+◌, ◌*◌, ◌/◌, ◌%◌, ◌≤◌, ◌<◌, cond, List, [], ◌∷◌, ltb, leb, length, drop}
-use Rattle.token.specs.Tokens.{missing, bad_number, largest, mb32}
+use Rattle.std.specs.Prelude.{ℕ, zero, suc, ◌+◌, ◌*◌, ◌/◌, ◌%◌, ◌≤◌, ◌<◌, cond, List, [], ◌∷◌, ltb, leb, length, drop, Result, Ok, Err}
+use Rattle.token.specs.Tokens.{largest, mb32}
+use Rattle.token.specs.declared.Fault.TheVariants.{Missing, BadNumber}
+use Rattle.token.specs.declared.Refusal.{Refusal}
+use Rattle.token.specs.Faults.{refusal}
 use Rattle.number.specs.declared.Number.{Number}
-use Rattle.number.specs.declared.Number.TheVariants.{Is, Refused}
 
 -- mb32 = *4highbyte lowbyte, mb64 = *9highbyte lowbyte: a spelling of at most so many bytes
 pub data Spelling : ℕ → List ℕ → Type 0 where
@@ -35,14 +37,18 @@ front zero l = unended
 front (suc most) [] = cut
 front (suc most) (b ∷ l) = cond (ltb b 128) (spelled b 1) (after b (front most l))
 
+-- a number: its value, and the place after it
+abbrev pub number : ℕ → ℕ → Number
+number value next = record { value = value; next = next }
+
 -- 01: a value over 2,147,483,647 is judged when the number has ended; the place of 4 is the number's first byte
-abbrev pub number_judged : List ℕ → ℕ → NumberFront → Number
-number_judged doc at (spelled value size) = cond (leb value largest) (Is value (at + size)) (Refused bad_number at)
-number_judged doc at unended = Refused bad_number at
-number_judged doc at cut = Refused missing (length doc)
+abbrev pub number_judged : List ℕ → ℕ → NumberFront → Result Number Refusal
+number_judged doc at (spelled value size) = cond (leb value largest) (Ok (number value (at + size))) (Err (refusal BadNumber at))
+number_judged doc at unended = Err (refusal BadNumber at)
+number_judged doc at cut = Err (refusal Missing (length doc))
 
 -- the number of at most `most` bytes at a place of a document: its value and the place after it, or the refusal
-unfoldable pub number_at : ℕ → List ℕ → ℕ → Number
+unfoldable pub number_at : ℕ → List ℕ → ℕ → Result Number Refusal
 number_at most doc at = number_judged doc at (front most (drop at doc))
 
 -- the shortest spelling of a value up to 2,147,483,647, in at most five bytes

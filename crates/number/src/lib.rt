@@ -7,15 +7,18 @@ ghost use Rattle.number.specs.Number.{number_at, size_of};
 ghost use Rattle.number.specs.Bounds.{Within, over_largest, scale_end};
 ghost use Rattle.token.specs.Tokens.{largest};
 
+use token::{Fault, Refusal};
+
 // One past the largest value; and what a one counts past the bytes of any such value.
 const OVER_LARGEST: usize = token::LARGEST + 1;
 
 const SCALE_END: usize = 34359738368;
 
+// A number that was read: its value, and the place after it.
 #[derive(Clone, Copy)]
-pub enum Number {
-    Is { value: usize, next: usize },
-    Refused { number: u32, place: usize },
+pub struct Number {
+    pub value: usize,
+    pub next: usize,
 }
 
 // The value with seven bits more, or one past the largest value where it is over that: so no length of a number wraps.
@@ -24,11 +27,7 @@ fn grown(value: usize, scale: usize, bits: usize) -> usize
     ensures { result ≡ min (value + bits * scale) over_largest }
 {
     let sum = value + bits * scale;
-    if sum < OVER_LARGEST {
-        sum
-    } else {
-        OVER_LARGEST
-    }
+    sum.min(OVER_LARGEST)
 }
 
 // What a one in the next byte counts, or a number whose every multiple is over the largest value.
@@ -36,13 +35,12 @@ fn raised(scale: usize) -> usize
     requires { scale ≤ scale_end }
     ensures { result ≡ min (scale * 128) scale_end }
 {
-    let next = scale * 128;
-    if next < SCALE_END { next } else { SCALE_END }
+    (scale * 128).min(SCALE_END)
 }
 
 // The number of at most `most` bytes at a place: its value and the place after it, or 2 at the document's length,
 // or 4 at the number's first byte.
-pub fn read(doc: &[u8], at: usize, most: usize) -> Number
+pub fn read(doc: &[u8], at: usize, most: usize) -> Result<Number, Refusal>
     ensures { (result ≡ number_at most doc.now at) × Within (length doc.now) at result }
 {
     let mut value: usize = 0;
@@ -51,28 +49,28 @@ pub fn read(doc: &[u8], at: usize, most: usize) -> Number
     let mut left = most;
     loop {
         if left == 0 {
-            break Number::Refused {
-                number: token::BAD_NUMBER,
+            break Err(Refusal {
+                fault: Fault::BadNumber,
                 place: at,
-            };
+            });
         }
         if doc.len() <= next {
-            break Number::Refused {
-                number: token::MISSING,
+            break Err(Refusal {
+                fault: Fault::Missing,
                 place: doc.len(),
-            };
+            });
         }
-        let b = slices::wide_place(doc[next]);
+        let b = usize::from(doc[next]);
         value = grown(value, scale, b % 128);
         next += 1;
         if b < 128 {
             if token::LARGEST < value {
-                break Number::Refused {
-                    number: token::BAD_NUMBER,
+                break Err(Refusal {
+                    fault: Fault::BadNumber,
                     place: at,
-                };
+                });
             }
-            break Number::Is { value, next };
+            break Ok(Number { value, next });
         }
         scale = raised(scale);
         left -= 1;

@@ -3,17 +3,17 @@ use Prim.Native.Nat.{ℕ, ◌-◌, ◌%◌, ◌≤◌}
 use mathlib.Core.Path.{◌≡◌, refl, sym, subst}
 use mathlib.Core.Bool.{Bool, true, false, ◌&&◌, ◌||◌}
 use mathlib.Core.Logic.{◌⊎◌, inl, inr, ⊎_elim}
-use mathlib.Core.List.{List, [], ◌∷◌}
+use mathlib.Core.List.{List, [], ◌∷◌, map}
 use native.Mathlib.Omega.{arith}
 use lib.ListN.{length, get_or}
 use lib.Dec.{eqb, leb, lit≤}
-use borrow.Author.Tests.{eqb-true, leb-true, ne_eqb}
+use borrow.Author.Tests.{eqb-true, eqb-false, leb-true, ne_eqb}
 use Rattle.sequences.proofs.Tests.{and_left, and_right, cond_if}
 use Rattle.token.specs.Tokens.{shape_of}
 use Rattle.rules.specs.Rules.{decimal_size, decimal_lawful, lawful}
 use Rattle.chunks.specs.Chunks.{word_size}
 use Rattle.plan.specs.declared.Kind.{Kind}
-use Rattle.plan.specs.declared.Kind.TheVariants.{Unshown, Signed, Unsigned}
+use Rattle.plan.specs.declared.Kind.TheVariants.{Unshown, Same, Signed, Unsigned, Truth, Decimal, Hex, Base64}
 use Rattle.plan.specs.Text.{kinds, kind_in, kind_of}
 use Rattle.plan.specs.Plans.{Ruled}
 
@@ -48,6 +48,57 @@ past_rows token T (row ∷ rows) h =
 pub unlisted : (token : ℕ) → PastRows token (Unit {0}) kinds → Unshown ≡ kind_of token
 unfolding kind_of
 unlisted token h = sym (past_rows token (Unit {0}) kinds h).1
+
+-- one of these codes
+abbrev pub OneOf : ℕ → List ℕ → Type 0
+OneOf token [] = ⊥
+OneOf token (code ∷ codes) = (token ≡ code → ⊥) → OneOf token codes
+
+-- a token that is one of some codes of a kind is of this kind
+by_code : (kind : Kind) (token code : ℕ) → kind ≡ kind_of code → ((token ≡ code → ⊥) → kind ≡ kind_of token) → kind ≡ kind_of token
+by_code kind token code e other = go (eqb token code) refl where
+  go : (t : Bool) → eqb token code ≡ t → kind ≡ kind_of token
+  go true q = rw (eqb-true token code q) e
+  go false q = other (eqb-false token code q)
+
+one_of : (kind : Kind) (token : ℕ) (codes : List ℕ) → map (λ code. kind) codes ≡ map kind_of codes → OneOf token codes → kind ≡ kind_of token
+one_of kind token [] e h = absurd h
+one_of kind token (code ∷ codes) e h =
+    by_code kind token code (cc) (λ n. one_of kind token codes (cc) (h n))
+
+-- the codes of each kind
+module _ (token : ℕ) where
+  pub signed_codes : OneOf token (0x01 ∷ 0x02 ∷ 0x08 ∷ 0x88 ∷ []) → Signed 0 ≡ kind_of token
+  unfolding kind_of
+  signed_codes = one_of (Signed 0) token (0x01 ∷ 0x02 ∷ 0x08 ∷ 0x88 ∷ []) refl
+
+  pub money_codes : OneOf token (0x05 ∷ 0x14 ∷ []) → Signed 4 ≡ kind_of token
+  unfolding kind_of
+  money_codes = one_of (Signed 4) token (0x05 ∷ 0x14 ∷ []) refl
+
+  pub unsigned_codes : OneOf token (0x06 ∷ 0x07 ∷ 0x89 ∷ 0x8A ∷ 0x8B ∷ []) → Unsigned ≡ kind_of token
+  unfolding kind_of
+  unsigned_codes = one_of Unsigned token (0x06 ∷ 0x07 ∷ 0x89 ∷ 0x8A ∷ 0x8B ∷ []) refl
+
+  pub decimal_codes : OneOf token (0x0A ∷ 0x0B ∷ 0x87 ∷ []) → Decimal ≡ kind_of token
+  unfolding kind_of
+  decimal_codes = one_of Decimal token (0x0A ∷ 0x0B ∷ 0x87 ∷ []) refl
+
+  pub base64_codes : OneOf token (0x0C ∷ 0x0F ∷ 0x17 ∷ 0x1B ∷ 0x85 ∷ []) → Base64 ≡ kind_of token
+  unfolding kind_of
+  base64_codes = one_of Base64 token (0x0C ∷ 0x0F ∷ 0x17 ∷ 0x1B ∷ 0x85 ∷ []) refl
+
+  pub same_codes : OneOf token (0x0E ∷ 0x11 ∷ 0x18 ∷ []) → Same ≡ kind_of token
+  unfolding kind_of
+  same_codes = one_of Same token (0x0E ∷ 0x11 ∷ 0x18 ∷ []) refl
+
+  pub hex_codes : OneOf token (0x84 ∷ []) → Hex ≡ kind_of token
+  unfolding kind_of
+  hex_codes = one_of Hex token (0x84 ∷ []) refl
+
+  pub truth_codes : OneOf token (0x86 ∷ []) → Truth ≡ kind_of token
+  unfolding kind_of
+  truth_codes = one_of Truth token (0x86 ∷ []) refl
 
 -- a payload of a fixed size
 unsigned_rule : (p : List ℕ) (size : ℕ) → word_size size ≡ true → eqb (length p) size ≡ true → Ruled Unsigned p

@@ -52,34 +52,19 @@ pub enum Plan {
 // ---- the plan
 
 // The kind of a token's text.
+#[tactic(auto, using(crate::proofs::Rules::signed_codes, crate::proofs::Rules::money_codes, crate::proofs::Rules::unsigned_codes, crate::proofs::Rules::decimal_codes, crate::proofs::Rules::base64_codes, crate::proofs::Rules::same_codes, crate::proofs::Rules::hex_codes, crate::proofs::Rules::truth_codes, crate::proofs::Rules::unlisted))]
 fn kind_of(token: u8) -> Kind
     ensures { result ≡ kind_of token }
 {
     match token {
-        0x01 => Kind::Signed(0),
-        0x02 => Kind::Signed(0),
-        0x05 => Kind::Signed(4),
-        0x06 => Kind::Unsigned,
-        0x07 => Kind::Unsigned,
-        0x08 => Kind::Signed(0),
-        0x0A => Kind::Decimal,
-        0x0B => Kind::Decimal,
-        0x0C => Kind::Base64,
-        0x0E => Kind::Same,
-        0x0F => Kind::Base64,
-        0x11 => Kind::Same,
-        0x14 => Kind::Signed(4),
-        0x17 => Kind::Base64,
-        0x18 => Kind::Same,
-        0x1B => Kind::Base64,
+        0x01 | 0x02 | 0x08 | 0x88 => Kind::Signed(0),
+        0x05 | 0x14 => Kind::Signed(4),
+        0x06 | 0x07 | 0x89 | 0x8A | 0x8B => Kind::Unsigned,
+        0x0A | 0x0B | 0x87 => Kind::Decimal,
+        0x0C | 0x0F | 0x17 | 0x1B | 0x85 => Kind::Base64,
+        0x0E | 0x11 | 0x18 => Kind::Same,
         0x84 => Kind::Hex,
-        0x85 => Kind::Base64,
         0x86 => Kind::Truth,
-        0x87 => Kind::Decimal,
-        0x88 => Kind::Signed(0),
-        0x89 => Kind::Unsigned,
-        0x8A => Kind::Unsigned,
-        0x8B => Kind::Unsigned,
         _ => Kind::Unshown,
     }
 }

@@ -1,45 +1,15 @@
--- The loops: the rest of a word, the digits of a number, and those of bytes. Assumes nothing.
-use Prim.Native.Nat.{ℕ, zero, suc, ◌+◌, ◌-◌, ◌*◌, ◌/◌, ◌%◌, ◌≤◌, ◌<◌}
+-- The loops: the digits of a number, and those of bytes. Assumes nothing.
+use Prim.Native.Nat.{ℕ, zero, suc, ◌+◌, ◌-◌, ◌/◌, ◌%◌, ◌≤◌, ◌<◌}
 use mathlib.Core.Path.{◌≡◌, refl, sym, ◌∙◌, ap}
-use mathlib.Core.List.{List, [], ◌∷◌, ◌++◌, append_assoc, append-nil}
+use mathlib.Core.List.{List, [], ◌∷◌, ◌++◌, append_assoc, append-nil, map, reverse, reverse-append, reverse-reverse}
 use native.Mathlib.Omega.{arith}
-use lib.ListN.{length, get_or, drop, set, length-append, drop_of_length-le}
-use lib.Seq.{drop-cons}
+use lib.ListN.{length, set, length-append}
+use Rattle.std.proofs.Common.{Bor}
+use Rattle.std.proofs.lemmas.List.{map-append}
 use Rattle.numeral.specs.Numeral.{unless_zero, digits_in, digits}
 use Rattle.hexadecimal.specs.Hexadecimal.{hex_digit, hex}
 use Rattle.print_lines.specs.Lines.{PutBefore}
-use Rattle.print_lines.proofs.Laws.{none_put, one_put}
-
--- ---- a word
-
--- the word from its place k on is put
-pub record WordSoFar (word before after : List ℕ) (end at k : ℕ) : Type 0 where
-  pub few : k ≤ length word
-  pub room : k ≤ at
-  pub inside : end ≤ length before
-  pub put : PutBefore before after end at (drop k word)
-
-pub word_start : (word text : List ℕ) (end : ℕ) → length word ≤ end → end ≤ length text → WordSoFar word text text end end (length word)
-word_start word text end r i =
-    record { few = omega arith; room = r; inside = i; put = rw (drop_of_length-le word (let z : length word ≤ length word = omega arith in z)) (none_put text end) }
-
-pub word_next : {word before after : List ℕ} {end at k : ℕ} → WordSoFar word before after end at k → 0 < k
-    → WordSoFar word before (set after (at - 1) (get_or word (k - 1) 0)) end (at - 1) (k - 1)
-word_next {word} {k = k} w h =
-    let f = w.few in
-    let r = w.room in
-    let y : suc (k - 1) ≡ k = omega arith in
-    let l : k - 1 < length word = omega arith in
-    let e : drop (k - 1) word ≡ get_or word (k - 1) 0 ∷ drop k word = drop-cons word (k - 1) 0 l ∙ rw y in
-    record {
-      few = omega arith;
-      room = omega arith;
-      inside = w.inside;
-      put = rw e (one_put w.put (get_or word (k - 1) 0) (omega arith) w.inside);
-    }
-
-pub word_end : {word before after : List ℕ} {end at k : ℕ} → WordSoFar word before after end at k → k ≤ 0 → PutBefore before after end at word
-word_end {word} {before} {after} {end} {at} {k} w h = let z : k ≡ 0 = omega arith in rw z at w.put
+use Rattle.print_lines.proofs.Laws.{none_put, one_put, both_put}
 
 -- ---- a number
 
@@ -113,35 +83,19 @@ module _ {n v end at : ℕ} {before after : List ℕ} (f : DigitsSoFar n v befor
 
 -- ---- bytes in hexadecimal
 
--- the digits of the bytes from place k on are put
-pub record HexSoFar (bytes before after : List ℕ) (end at k : ℕ) : Type 0 where
-  pub few : k ≤ length bytes
-  pub room : 2 * k ≤ at
-  pub inside : end ≤ length before
-  pub put : PutBefore before after end at (hex (drop k bytes))
+-- the bytes that a loop from the last to the first has had, in their order
+abbrev pub seen : List (Bor ℕ) → List ℕ
+seen bs = reverse (map (λ b. b.now) bs)
 
-pub hex_start : (bytes text : List ℕ) (end : ℕ) → 2 * length bytes ≤ end → end ≤ length text → HexSoFar bytes text text end end (length bytes)
+-- one byte more
+pub hex_next : (bs : List (Bor ℕ)) (b : Bor ℕ) {before after last : List ℕ} {end at from low high : ℕ} → PutBefore before after end at (hex (seen bs))
+    → high ≡ hex_digit (b.now / 16) → low ≡ hex_digit (b.now % 16) → PutBefore after last at from (high ∷ low ∷ [])
+    → PutBefore before last end from (hex (seen (bs ++ (b ∷ []))))
 unfolding hex
-hex_start bytes text end r i =
-    record { few = omega arith; room = r; inside = i; put = rw (drop_of_length-le bytes (let z : length bytes ≤ length bytes = omega arith in z)) (none_put text end) }
+hex_next bs b p x y q =
+    let e : seen (bs ++ (b ∷ [])) ≡ b.now ∷ seen bs = ap reverse (map-append (λ (c : Bor ℕ). c.now) bs (b ∷ [])) ∙ reverse-append (map (λ (c : Bor ℕ). c.now) bs) (b.now ∷ []) in
+    rw (e, ← x, ← y) (both_put p q)
 
-pub hex_next : {bytes before after : List ℕ} {end at k low high : ℕ} → HexSoFar bytes before after end at k → 0 < k
-    → low ≡ hex_digit (get_or bytes (k - 1) 0 % 16) → high ≡ hex_digit (get_or bytes (k - 1) 0 / 16)
-    → HexSoFar bytes before (set (set after (at - 1) low) (at - 1 - 1) high) end (at - 1 - 1) (k - 1)
-unfolding hex
-hex_next {bytes} {k = k} {low = low} {high = high} f h x y =
-    let w = f.few in
-    let r = f.room in
-    let s : suc (k - 1) ≡ k = omega arith in
-    let l : k - 1 < length bytes = omega arith in
-    let e : drop (k - 1) bytes ≡ get_or bytes (k - 1) 0 ∷ drop k bytes = drop-cons bytes (k - 1) 0 l ∙ rw s in
-    let one = one_put f.put low (omega arith) f.inside in
-    record {
-      few = omega arith;
-      room = omega arith;
-      inside = f.inside;
-      put = rw (e, ← x, ← y) (one_put one high (omega arith) f.inside);
-    }
-
-pub hex_end : {bytes before after : List ℕ} {end at k : ℕ} → HexSoFar bytes before after end at k → k ≤ 0 → PutBefore before after end at (hex bytes)
-hex_end {bytes} {before} {after} {end} {at} {k} f h = let z : k ≡ 0 = omega arith in rw z at f.put
+pub hex_end : (bs : List (Bor ℕ)) (bytes : List ℕ) {before after : List ℕ} {end at : ℕ} → map (λ b. b.now) bs ≡ reverse bytes → PutBefore before after end at (hex (seen bs))
+    → PutBefore before after end at (hex bytes)
+hex_end bs bytes e p = let s : seen bs ≡ bytes = ap reverse e ∙ reverse-reverse bytes in rw s at p

@@ -3,25 +3,22 @@
 
 ghost use Rattle.std.specs.Prelude.{◌≡◌, ◌*◌, ◌≤◌, ◌<◌, length};
 ghost use Rattle.numeral.specs.Numeral.{digits};
-ghost use Rattle.hexadecimal.specs.Hexadecimal.{hex_digit, hex};
+ghost use Rattle.hexadecimal.specs.Hexadecimal.{hex};
 ghost use Rattle.print_lines.specs.Lines.{PutBefore, field, line};
+
+// Each function takes the text and a place, not a struct of the two: README and docs/PROOFS.md name these functions.
 
 // Puts a word before place `end`; gives the place where it begins.
 pub fn put_word(text: &mut [u8], end: usize, word: &[u8]) -> usize
     requires { (length word.now ≤ end) × (end ≤ length text.old) }
     ensures { PutBefore text.old text.new end result word.now }
 {
-    let mut at = end;
-    let mut k = word.len();
-    while 0 < k {
-        k -= 1;
-        at -= 1;
-        text[at] = word[k];
-    }
+    let at = end - word.len();
+    text[at..end].copy_from_slice(word);
     at
 }
 
-// Puts a number's decimal digits before place `end`; gives the place where they begin.
+// Puts a number's decimal digits before place `end`; gives the place where they begin. The loop counts no index: it ends with the number.
 pub fn put_decimal(text: &mut [u8], end: usize, n: usize) -> usize
     requires { (length (digits n) ≤ end) × (end ≤ length text.old) }
     ensures { PutBefore text.old text.new end result (digits n) }
@@ -65,27 +62,16 @@ pub fn put_line(
     put_field(text, between, first, a)
 }
 
-// The hexadecimal digit of a number below 16.
-fn digit(d: u8) -> u8
-    requires { d < 16 }
-    ensures { result ≡ hex_digit d }
-{
-    if d < 10 { 48 + d } else { 55 + d }
-}
-
 // Puts two hexadecimal digits for each byte before place `end`; gives the place where they begin.
 pub fn put_hex(text: &mut [u8], end: usize, bytes: &[u8]) -> usize
     requires { (2 * length bytes.now ≤ end) × (end ≤ length text.old) }
     ensures { PutBefore text.old text.new end result (hex bytes.now) }
 {
     let mut at = end;
-    let mut i = bytes.len();
-    while 0 < i {
-        i -= 1;
-        at -= 1;
-        text[at] = digit(bytes[i] % 16);
-        at -= 1;
-        text[at] = digit(bytes[i] / 16);
+    for b in bytes.iter().rev() {
+        let high = hexadecimal::hex_digit(b / 16);
+        let low = hexadecimal::hex_digit(b % 16);
+        at = put_word(text, at, &[high, low]);
     }
     at
 }

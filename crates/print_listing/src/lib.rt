@@ -22,9 +22,7 @@ fn put_pairs(text: &mut [u8], pairs: &[u32], count: usize) -> usize
     ensures { PutBefore text.old text.new (length text.old) result (pair_lines (pair_rows count pairs.now)) × (first_line ≤ result) }
 {
     let mut at = text.len();
-    let mut k = count;
-    while 0 < k {
-        k -= 1;
+    for k in (0..count).rev() {
         let earlier = slices::cell(pairs, 2 * k);
         let later = slices::cell(pairs, 2 * k + 1);
         at = print_lines::put_line(text, at, b"", earlier, b" ", later);
@@ -66,6 +64,7 @@ pub fn print(doc: &[u8], text: &mut [u8]) -> usize
 }
 
 // Zeros for the text that is printed. The `ensures` gives only their number, so that no proof computes with a list so long.
+// Each printing crate has its own, as docs/PROOFS.md names them; one over a const parameter would stand beside them and be no shorter.
 pub fn blank() -> [u8; PRINTED]
     ensures { length result ≡ listing_size }
 {

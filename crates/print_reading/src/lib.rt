@@ -27,22 +27,15 @@ fn put_verdict(text: &mut [u8], end: usize, a: Answer) -> usize
 }
 
 // The row counts and the outer version.
-fn put_counts(
-    text: &mut [u8],
-    end: usize,
-    names: usize,
-    qnames: usize,
-    events: usize,
-    version: usize,
-) -> usize
+fn put_counts(text: &mut [u8], end: usize, a: Answer) -> usize
     requires { (answer_end ≤ end) × (end ≤ length text.old) }
-    ensures { PutBefore text.old text.new end result (counts names qnames events version) × (42 ≤ result) }
+    ensures { PutBefore text.old text.new end result (counts a.names a.qnames a.events a.version) × (42 ≤ result) }
 {
     let after = print_lines::put_word(text, end, b"\n");
-    let before_version = print_lines::put_field(text, after, b" version ", version);
-    let before_events = print_lines::put_field(text, before_version, b" events ", events);
-    let before_qnames = print_lines::put_field(text, before_events, b" qnames ", qnames);
-    print_lines::put_field(text, before_qnames, b" names ", names)
+    let before_version = print_lines::put_field(text, after, b" version ", a.version);
+    let before_events = print_lines::put_field(text, before_version, b" events ", a.events);
+    let before_qnames = print_lines::put_field(text, before_events, b" qnames ", a.qnames);
+    print_lines::put_field(text, before_qnames, b" names ", a.names)
 }
 
 // ---- the whole text
@@ -52,7 +45,7 @@ pub fn put_answer(text: &mut [u8], end: usize, a: Answer) -> usize
     requires { (answer_end ≤ end) × (end ≤ length text.old) }
     ensures { PutBefore text.old text.new end result (answer_line a) }
 {
-    let at = put_counts(text, end, a.names, a.qnames, a.events, a.version);
+    let at = put_counts(text, end, a);
     put_verdict(text, at, a)
 }
 
@@ -71,6 +64,7 @@ pub fn print(doc: &[u8], text: &mut [u8]) -> usize
 }
 
 // Zeros for the text that is printed. The `ensures` gives only their number, so that no proof computes with a list so long.
+// Each printing crate has its own, as docs/PROOFS.md names them; one over a const parameter would stand beside them and be no shorter.
 pub fn blank() -> [u8; PRINTED]
     ensures { length result ≡ rows_end }
 {

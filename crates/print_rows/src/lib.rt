@@ -21,9 +21,7 @@ fn put_numbers(text: &mut [u8], end: usize, table: &[u32], from: usize, count: u
     ensures { PutBefore text.old text.new end result (row_line [] (part table.now from count)) × (end ≤ result + (1 + 11 * count)) }
 {
     let mut at = print_lines::put_word(text, end, b"\n");
-    let mut k = count;
-    while 0 < k {
-        k -= 1;
+    for k in (0..count).rev() {
         at = print_lines::put_field(text, at, b" ", slices::cell(table, from + k));
     }
     at
@@ -43,9 +41,7 @@ fn put_lines(
         × (end ≤ result + line_room word.now width * rows) }
 {
     let mut at = end;
-    let mut k = rows;
-    while 0 < k {
-        k -= 1;
+    for k in (0..rows).rev() {
         at = put_numbers(text, at, table, width * k, width);
         at = print_lines::put_word(text, at, word);
     }
@@ -68,9 +64,7 @@ fn put_events(text: &mut [u8], end: usize, events: &[u32], rows: usize) -> usize
     ensures { PutBefore text.old text.new end result (event_lines (event_rows_in rows events.now)) × (qnames_end ≤ result) }
 {
     let mut at = end;
-    let mut k = rows;
-    while 0 < k {
-        k -= 1;
+    for k in (0..rows).rev() {
         at = put_numbers(text, at, events, token::EVENT_WIDTH * k + 1, 3);
         at = put_token(text, at, slices::cell(events, token::EVENT_WIDTH * k));
     }

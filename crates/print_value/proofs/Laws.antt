@@ -2,6 +2,7 @@
 use Prim.Native.Nat.{ℕ, ◌≤◌, ◌<◌}
 use mathlib.Core.Path.{◌≡◌}
 use mathlib.Core.List.{List, [], ◌∷◌}
+use mathlib.Core.Logic.{◌⊎◌, inl, inr}
 use native.Mathlib.Omega.{arith}
 use lib.ListN.{length}
 use Rattle.hexadecimal.specs.Hexadecimal.{hex}
@@ -29,15 +30,11 @@ unfolding refusal
 refusal_put number count p = p
 
 module _ (p b : List ℕ) {s : Shown} {t t' : List ℕ} {end at : ℕ} where
-  pub own_put : {n : ℕ} {bytes : List ℕ} → s ≡ Own n → bytes ≡ part_of p b s → PutBefore t t' end at (text_lines bytes)
+  pub text_shown : {bytes : List ℕ} → ((n : ℕ) × (s ≡ Own n)) ⊎ ((n : ℕ) × (s ≡ Made n)) → bytes ≡ part_of p b s → PutBefore t t' end at (text_lines bytes)
       → PutBefore t t' end at (shown_lines (text_answer s) (part_of p b s))
   unfolding shown_lines
-  own_put e f g = rw (← f, e) g
-
-  pub made_put : {n : ℕ} {bytes : List ℕ} → s ≡ Made n → bytes ≡ part_of p b s → PutBefore t t' end at (text_lines bytes)
-      → PutBefore t t' end at (shown_lines (text_answer s) (part_of p b s))
-  unfolding shown_lines
-  made_put e f g = rw (← f, e) g
+  text_shown (inl e) f g = rw (← f, e.1) g
+  text_shown (inr e) f g = rw (← f, e.1) g
 
   pub short_put : {n : ℕ} → s ≡ Short n → PutBefore t t' end at (refusal 10 n) → PutBefore t t' end at (shown_lines (text_answer s) (part_of p b s))
   unfolding shown_lines

@@ -41,8 +41,7 @@ fn put_shown<'a>(out: &mut [u8], payload: &'a [u8], buffer: &'a [u8], shown: Sho
     ensures { PutBefore out.old out.new value_size result (shown_lines (text_answer shown) (part_of payload.now buffer.now shown)) }
 {
     match shown {
-        Shown::Own(_) => put_text(out, text::part(payload, buffer, shown)),
-        Shown::Made(_) => put_text(out, text::part(payload, buffer, shown)),
+        Shown::Own(_) | Shown::Made(_) => put_text(out, text::part(payload, buffer, shown)),
         Shown::Short(n) => put_refusal(out, token::NO_ROOM, n),
         Shown::NoText => put_refusal(out, token::NO_TEXT, 0),
     }
@@ -54,16 +53,16 @@ pub fn print(input: &[u8], out: &mut [u8]) -> usize
     requires { length out.old ≡ value_size }
     ensures { (out.new ≡ take result out.old ++ printed input.now) × (result ≤ value_size) }
 {
-    if input.len() == 0 {
+    let [token, payload @ ..] = input else {
         return put_refusal(out, token::NO_TEXT, 0);
-    }
-    let payload = &input[1..];
+    };
     let mut buffer = [0u8; TEXT_ROOM];
-    let shown = text::show(input[0], payload, &mut buffer);
+    let shown = text::show(*token, payload, &mut buffer);
     put_shown(out, payload, &buffer, shown)
 }
 
 // Zeros for the text that is printed. The `ensures` gives only their number, so that no proof computes with a list so long.
+// Each printing crate has its own, as docs/PROOFS.md names them; one over a const parameter would stand beside them and be no shorter.
 pub fn blank() -> [u8; PRINTED]
     ensures { length result ≡ value_size }
 {

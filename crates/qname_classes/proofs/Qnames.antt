@@ -1,12 +1,13 @@
 -- Rows of qnames with equal keys have equal texts; and the loop that fills the classes. Assumes nothing.
 use Prim.Native.Nat.{ℕ, zero, suc, ◌+◌, ◌*◌, ◌≤◌, ◌<◌, min}
 use mathlib.Core.Path.{◌≡◌, refl, ap, sym, ◌∙◌}
-use mathlib.Core.Bool.{cond}
+use mathlib.Core.Bool.{Bool, true, cond}
 use mathlib.Core.Option.{some}
-use mathlib.Core.List.{List}
+use mathlib.Core.List.{List, [], ◌∷◌}
 use native.Mathlib.Omega.{arith}
 use native.Mathlib.Numerals.{add-one}
-use lib.Dec.{ltb}
+use lib.Dec.{eqb, ltb}
+use borrow.Author.Tests.{eq-eqb, eqb-true}
 use lib.ListN.{length, get_or, get_elem?, set}
 use Rattle.sequences.specs.Arrays.{Front, Every}
 use Rattle.sequences.proofs.Overlay.{front_at}
@@ -72,6 +73,18 @@ module _ (doc : List ℕ) (N : List NameRow) (classes : List ℕ) (few : length 
         text_same q.local r.local f.local_in_fact g.local_in_fact (ap (λ (t : Triple). t.local) e),
       )
 
+-- the tree's values are lists: a key is the list of itself, and its own hash
+abbrev pub key_hash : List ℕ → ℕ
+key_hash l = get_or l 0 0
+
+abbrev pub key_list : List ℕ → List ℕ → ℕ → List ℕ
+key_list qnames classes k = key_at qnames classes k ∷ []
+
+-- what the test of two keys tells
+pub keys_told : (a k x y : ℕ) (b : Bool) → b ≡ eqb a k → a ≡ x → k ≡ y → (b ≡ true → x ∷ [] ≡ y ∷ []) × (x ∷ [] ≡ y ∷ [] → b ≡ true)
+keys_told a k x y b e i j =
+    (λ h. ap (λ (z : ℕ). z ∷ []) (sym i ∙ eqb-true a k (sym e ∙ h) ∙ j), λ q. e ∙ eq-eqb a k (i ∙ ap key_hash q ∙ sym j))
+
 -- row k of a table of qnames
 abbrev qname_at : List ℕ → ℕ → QnameRow
 qname_at qnames k = qname_row (get_or qnames (qname_width * k) 0) (get_or qnames (qname_width * k + 1) 0) (get_or qnames (qname_width * k + 2) 0)
@@ -88,7 +101,7 @@ module _ (doc names : List ℕ) (rows : ℕ) (qnames : List ℕ) (count : ℕ) (
   pub record Keyed (qclasses tree keys : List ℕ) (r : ℕ) : Type 0 where
     pub within : r ≤ count
     pub keyed : FirstValues (key_at qnames classes) r keys
-    pub treed : Tree (λ x. x) (key_at qnames classes) r tree
+    pub treed : Tree key_hash (key_list qnames classes) r tree
     pub classed : FirstValues class_for r qclasses
 
   pub keyed_none : (qclasses tree keys : List ℕ) → length qclasses ≡ 1024 → length tree ≡ 4087 → length keys ≡ 1024
@@ -147,18 +160,19 @@ module _ (doc names : List ℕ) (rows : ℕ) (qnames : List ℕ) (count : ℕ) (
         add-one r ∙ sym (class_at_fact r l ∙ ap suc q)
 
     pub keyed_next : (qclasses tree keys tree' : List ℕ) (r key p c : ℕ) → Keyed qclasses tree keys r → r < count → count ≤ 1024
-        → key ≡ key_at qnames classes r → Spot (λ x. x) (key_at qnames classes) r tree p
+        → key ≡ key_at qnames classes r → Spot key_hash (key_list qnames classes) r tree p
         → c ≡ cond (ltb (get_or tree p 0) 1024) (get_or qclasses (get_or tree p 0) 0) (r + 1)
         → tree' ≡ set tree p (min (get_or tree p 0) r) → Keyed (set qclasses r c) tree' (set keys r key) (r + 1)
     keyed_next qclasses tree keys tree' r key p c x l few-keys e s i n =
         let b : r < 1024 = omega arith in
-        let same : (k : ℕ) → k < r → key_at qnames classes k ≡ key_at qnames classes r → class_for k ≡ class_for r =
+        let same : (k : ℕ) → k < r → key_list qnames classes k ≡ key_list qnames classes r → class_for k ≡ class_for r =
         λ k h q. class_at_fact k (omega arith)
-        ∙ ap (qnumber_of (triples_of doc (name_rows_in rows names) (qname_rows_in count qnames))) (key_same k r (omega arith) l q)
+        ∙ ap (qnumber_of (triples_of doc (name_rows_in rows names) (qname_rows_in count qnames))) (key_same k r (omega arith) l (ap key_hash q))
         ∙ sym (class_at_fact r l) in
         record {
           within = omega arith;
           keyed = values_next key x.keyed b e;
           treed = rw n (tree_next x.treed p s b);
-          classed = values_next c x.classed b (class_chosen x.treed p s b (r + 1) c x.classed same (key_own r l) i);
+          classed = values_next c x.classed b
+              (class_chosen x.treed p s b (r + 1) c x.classed same (λ n. key_own r l (λ k h q. n k h (ap (λ (z : ℕ). z ∷ []) q))) i);
         }

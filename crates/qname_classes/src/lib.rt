@@ -7,11 +7,7 @@ ghost use Rattle.machine.specs.Facts.{QnameFits};
 ghost use Rattle.machine.specs.Tables.{name_rows_in, qname_rows_in};
 ghost use Rattle.classes.specs.Classes.{name_classes, qname_classes};
 ghost use Rattle.classes.specs.Search.{Keyable, key_at};
-ghost use Rattle.classes.specs.Tree.{FirstAre, Tree, Spot};
 ghost use Rattle.token.specs.Tokens.{name_width, qname_width, name_rows, qname_rows};
-
-// The slots, as a key has them.
-const MODULUS: u32 = classes::SLOTS as u32;
 
 // The classes of a row of qnames as one number: equal keys mean equal texts.
 fn key_of(qnames: &[u32], classes: &[u32; token::NAME_ROWS], r: usize) -> u32
@@ -23,34 +19,6 @@ fn key_of(qnames: &[u32], classes: &[u32; token::NAME_ROWS], r: usize) -> u32
     let prefix = classes::class_of(qnames, classes, token::QNAME_WIDTH * r + 1);
     let local = classes::class_of(qnames, classes, token::QNAME_WIDTH * r + 2);
     (uri * classes::CLASSES + prefix) * classes::CLASSES + local
-}
-
-// The place of the tree for the key of row `r`: where an earlier row with that key stands, or none. The tables are named in the contract
-// only.
-fn find_key(
-    qnames: &[u32],
-    classes: &[u32; token::NAME_ROWS],
-    keys: &[u32; token::QNAME_ROWS],
-    tree: &[u16; classes::PLACES],
-    r: usize,
-    key: u32,
-) -> usize
-    requires { (r < qname_rows) × FirstAre (key_at qnames.now classes.now) r keys.now
-        × Tree (λ x. x) (key_at qnames.now classes.now) r tree.now × (key ≡ key_at qnames.now classes.now r) }
-    ensures { Spot (λ x. x) (key_at qnames.now classes.now) r tree.now result }
-{
-    let mut bits = key;
-    let mut p = (key % MODULUS) as usize;
-    let mut j = tree[p] as usize;
-    while j < token::QNAME_ROWS {
-        if keys[j] == key {
-            return p;
-        }
-        p = classes::SLOTS + 2 * j + (bits % 2) as usize;
-        bits = bits / 2;
-        j = tree[p] as usize;
-    }
-    p
 }
 
 // The class of each of the first `count` rows of qnames; `classes` are those of the names' rows.
@@ -70,17 +38,15 @@ pub fn qname_classes(
     ensures { Front (qname_classes doc.now (name_rows_in rows names.now) (qname_rows_in count qnames.now)) qclasses.new
         × (length qclasses.new ≡ qname_rows) }
 {
-    // as for names; a key is its own hash
+    // As for names; a key is its own hash. The loop is not shared: the hash, the test and the class of a new text are half of its lines.
     let mut tree = [classes::NO_ROW; classes::PLACES];
     let mut keys = [1u32; token::QNAME_ROWS];
-    let mut r: usize = 0;
-    while r < count {
+    for r in 0..count {
         let key = key_of(qnames, classes, r);
-        let p = find_key(qnames, classes, &keys, &tree, r, key);
-        let j = tree[p] as usize;
+        let p = classes::find(&tree, r, u64::from(key), |j| keys[j] == key);
+        let j = usize::from(tree[p]);
         qclasses[r] = classes::class_or(qclasses, j, r as u32 + 1);
         keys[r] = key;
         classes::put_row(&mut tree, p, r);
-        r += 1;
     }
 }

@@ -5,20 +5,24 @@ use mathlib.Core.Path.{◌≡◌, refl, sym, ◌∙◌, subst}
 use mathlib.Core.List.{List}
 use native.Mathlib.Omega.{arith}
 use lib.ListN.{length}
-use Rattle.scan.specs.Bounds.{Fine}
+use Rattle.std.specs.Prelude.{Ok}
+use Rattle.std.specs.Prelude as std
+use Rattle.token.specs.declared.Refusal.{Refusal}
+use Rattle.scan.specs.Bounds.{Fine, FineIf}
 use Rattle.scan.specs.Steps.{step_at}
 use Rattle.modes.specs.declared.View.{View}
 use Rattle.scan.specs.declared.Room.{Room}
 use Rattle.scan.specs.declared.Step.{Step}
 use Rattle.scan.specs.declared.Step.TheVariants as step
 use Rattle.machine.specs.Machine.{State, view, apply, Result, result, run, started, Reads}
+use Rattle.rows.specs.declared.Stacks.{Stacks}
 use Rattle.rows.specs.Tables.{Tables, tables, answer_at, Turned, Held, ReadingBegins}
 use Rattle.steps.proofs.Keeps.{Stored, Kept, keep, same_lengths}
-use Rattle.machine.proofs.Goes.{Goes, passes, stepped, stopped}
+use Rattle.machine.proofs.Goes.{Goes, Halts, passes, stepped, stopped}
 
--- a step whose tag is not that of `Stop`
-pub goes : (x : Step) → ((number place : ℕ) → x ≡ step.Stop number place → ⊥) → Goes x
-goes (step.Stop number place) h = absurd (h number place refl)
+-- a step whose tag is not that of `End`
+pub goes : (x : Step) → ((place : ℕ) → x ≡ step.End place → ⊥) → Goes x
+goes (step.End place) h = absurd (h place refl)
 goes (step.Name place units next) h = tt
 goes (step.Qname uri prefix local next) h = tt
 goes (step.Skip next) h = tt
@@ -30,6 +34,10 @@ goes (step.Pi target start next) h = tt
 goes (step.Close next) h = tt
 goes (step.Nest version next) h = tt
 goes (step.Leave next) h = tt
+
+-- a step that was found
+pub fine_ok : (size : ℕ) (v : View) (room : Room) {r : std.Result Step Refusal} {x : Step} → r ≡ Ok x → FineIf size v room r → Fine size v room x
+fine_ok size v room e f = subst (λ (y : std.Result Step Refusal). FineIf size v room y) e f
 
 -- what holds at each turn of the loop
 pub record Walks (doc : List ℕ) (room : Room) (version : ℕ) (end : Result) (n₀ q₀ e₀ : List ℕ) (t : Tables) (v : View) : Type 0 where
@@ -49,7 +57,7 @@ module _ {doc : List ℕ} {room : Room} {version : ℕ} {end : Result} {n₀ q�
   pub held_here : Held (length doc) room t v
   held_here = rw w.seen w.held
 
-  pub going : {t' : Tables} {r : View} (x : Step) → x ≡ step_at doc v room → Goes x → Fine (length doc) v room x → Turned t t' v x r
+  pub going : {t' : Tables} {r : View} (x : Step) → Ok x ≡ step_at doc v room → Goes x → Fine (length doc) v room x → Turned t t' v x r
       → Walks doc room version end n₀ q₀ e₀ t' r
   going {t'} {r} x e g f u = by_fuel w.left w.same w.enough
     where
@@ -57,10 +65,10 @@ module _ {doc : List ℕ} {room : Room} {version : ℕ} {end : Result} {n₀ q�
       k = keep w.stored w.held x g (subst (λ (y : View). Fine (length doc) y room x) w.seen f) (subst (λ (y : View). Turned t t' y x r) w.seen u)
 
       by_fuel : (left : ℕ) → run left doc room version w.s ≡ end → length doc < w.s.at + left → Walks doc room version end n₀ q₀ e₀ t' r
-      by_fuel zero same enough = absurd (let h = w.held.at_in in let q : ⊥ = omega arith in q)
+      by_fuel zero same enough = absurd (let i = w.held.at_in in let q : ⊥ = omega arith in q)
       by_fuel (suc left) same enough =
           let p = passes (length doc) room w.s x g (subst (λ (y : View). Fine (length doc) y room x) w.seen f) in
-          let e' : x ≡ step_at doc (view w.s) room = rw w.seen at e in
+          let e' : Ok x ≡ step_at doc (view w.s) room = rw w.seen at e in
           record {
             s = apply w.s x;
             left = left;
@@ -84,26 +92,26 @@ module _ {doc : List ℕ} {room : Room} {version : ℕ} {end : Result} {n₀ q�
       rw (w.seen, k.seen) (p, h)
 
   -- the machine stops: the answer and the tables are those of the state reached
-  pub ending : (number place : ℕ) {x : Step} → x ≡ step_at doc v room → x ≡ step.Stop number place
+  pub ending : (number place : ℕ) {x y : std.Result Step Refusal} → Halts number place y → x ≡ step_at doc v room → x ≡ y
       → Reads end n₀ q₀ e₀ t.names t.qnames t.events
       (answer_at v number place version)
-  ending number place {x} e g = by_fuel w.left w.same w.enough
+  ending number place {x} {y} h e g = by_fuel w.left w.same w.enough
     where
       by_fuel : (left : ℕ) → run left doc room version w.s ≡ end → length doc < w.s.at + left
           → Reads end n₀ q₀ e₀ t.names t.qnames t.events
           (answer_at v number place version)
-      by_fuel zero same enough = absurd (let h = w.held.at_in in let q : ⊥ = omega arith in q)
+      by_fuel zero same enough = absurd (let i = w.held.at_in in let q : ⊥ = omega arith in q)
       by_fuel (suc left) same enough =
-          let e' : step.Stop number place ≡ step_at doc (view w.s) room = rw w.seen at (sym g ∙ e) in
-          let is : result number place version w.s ≡ end = stopped left doc room version w.s number place e' ∙ same in
+          let e' : y ≡ step_at doc (view w.s) room = rw w.seen at (sym g ∙ e) in
+          let is : result number place version w.s ≡ end = stopped left doc room version w.s h e' ∙ same in
           rw (← is, w.seen)
           (record { answer_is = refl; names_are = w.stored.names_are; qnames_are = w.stored.qnames_are; events_are = w.stored.events_are })
 
 -- before the first step
-pub starting : (doc : List ℕ) (room : Room) (version next : ℕ) (n₀ q₀ e₀ stack qstack frames : List ℕ) → ReadingBegins (length doc) room n₀ q₀ e₀ next
-    → length stack ≡ 1024 → length qstack ≡ 1024 → length frames ≡ 48
-    → Walks doc room version (run (suc (length doc)) doc room version (started version next)) n₀ q₀ e₀ (tables n₀ q₀ e₀ stack qstack frames) (view (started version next))
-starting doc room version next n₀ q₀ e₀ stack qstack frames b ls lq lf =
+pub starting : (doc : List ℕ) (room : Room) (version next : ℕ) (n₀ q₀ e₀ : List ℕ) (stacks : Stacks) → ReadingBegins (length doc) room n₀ q₀ e₀ next
+    → length stacks.names ≡ 1024 → length stacks.qnames ≡ 1024 → length stacks.frames ≡ 8
+    → Walks doc room version (run (suc (length doc)) doc room version (started version next)) n₀ q₀ e₀ (tables n₀ q₀ e₀ stacks) (view (started version next))
+starting doc room version next n₀ q₀ e₀ stacks b ls lq lf =
     record {
       s = started version next;
       left = suc (length doc);

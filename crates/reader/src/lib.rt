@@ -10,9 +10,11 @@ use common::Common;
 use fields::Header;
 use machine::Answer;
 use modes::{Mode, View};
+use rows::{Frame, Stacks};
 use scan::{Room, Step};
 
-// Before the first token, which stands after the outer header.
+// Before the first token, which stands after the outer header. Each field is written: a default view would need a default mode,
+// which nothing else has a use for.
 fn first_view(version: usize, next: usize) -> View
     ensures { result ≡ view (started version next) }
 {
@@ -63,43 +65,37 @@ fn walk(
         names.old qnames.old events.old names.new qnames.new events.new result }
 {
     // A first value whose bytes differ is stored by vector instructions, and one of equal bytes by a call of memset.
-    let mut stack = [1u32; token::NAME_ROWS];
-    let mut qstack = [1u32; token::QNAME_ROWS];
-    let mut frames = [0usize; rows::FRAMES];
+    let mut stacks = Stacks {
+        names: [1; token::NAME_ROWS],
+        qnames: [1; token::QNAME_ROWS],
+        frames: [Frame::default(); token::NESTED_DOCUMENTS],
+    };
     let mut v = first_view(version, next);
     loop {
         let common = common::common_at(table, doc, v, room);
         match common {
-            Common::Other => {}
-            Common::End => {
+            None => {}
+            Some(Common::End) => {
                 v = steps::close_element(events, v, v.at + 1);
                 continue;
             }
-            Common::Begin(number) => {
-                v = steps::add_element(events, &qstack, v, number, v.at + 2);
+            Some(Common::Begin(number)) => {
+                v = steps::add_element(events, &stacks, v, number, v.at + 2);
                 continue;
             }
-            Common::Fixed(size) => {
+            Some(Common::Fixed(size)) => {
                 v = steps::add_value(events, doc, v, size);
                 continue;
             }
         }
-        let step = scan::step_at(table, doc, v, room);
-        if let Step::Stop { number, place } = step {
-            break answered(v, number, place, version);
+        let step = match scan::step_at(table, doc, v, room) {
+            Ok(step) => step,
+            Err(r) => break answered(v, r.fault.number(), r.place, version),
+        };
+        if let Step::End { place } = step {
+            break answered(v, token::ACCEPTED, place, version);
         }
-        v = steps::turn(
-            names,
-            qnames,
-            events,
-            &mut stack,
-            &mut qstack,
-            &mut frames,
-            v,
-            room,
-            doc.len(),
-            step,
-        );
+        v = steps::turn(names, qnames, events, &mut stacks, v, room, doc.len(), step);
     }
 }
 
@@ -108,12 +104,13 @@ fn room_of(names: usize, qnames: usize, events: usize) -> Room
     ensures { result ≡ room_in names qnames events }
 {
     Room {
-        names: slices::least(names / token::NAME_WIDTH, token::NAME_ROWS),
-        qnames: slices::least(qnames / token::QNAME_WIDTH, token::QNAME_ROWS),
-        events: slices::least(events / token::EVENT_WIDTH, token::EVENT_ROWS),
+        names: (names / token::NAME_WIDTH).min(token::NAME_ROWS),
+        qnames: (qnames / token::QNAME_WIDTH).min(token::QNAME_ROWS),
+        events: (events / token::EVENT_WIDTH).min(token::EVENT_ROWS),
     }
 }
 
+// No field is left to take from another answer but the three zeros.
 fn none_read(number: u32, place: usize) -> Answer
     ensures { result ≡ read_answer (result_of number place 0 blank) }
 {
@@ -129,6 +126,7 @@ fn none_read(number: u32, place: usize) -> Answer
 
 // Reads a document into the three tables. Rows completed stay after a refusal, and nothing past them is touched. Its local arrays
 // take 9 KB of the stack.
+#[tactic(auto, using(crate::proofs::Whole::too_long_read))]
 pub fn read(doc: &[u8], names: &mut [u32], qnames: &mut [u32], events: &mut [u32]) -> Answer
     ensures { Reads (reading doc.now (room_in (length names.old) (length qnames.old) (length events.old)))
         names.old qnames.old events.old names.new qnames.new events.new result }
@@ -137,8 +135,8 @@ pub fn read(doc: &[u8], names: &mut [u32], qnames: &mut [u32], events: &mut [u32
         return none_read(token::TOO_LONG, token::LONGEST);
     }
     match fields::header_at(doc, 0) {
-        Header::Refused { number, place } => none_read(number, place),
-        Header::Is { version, next } => {
+        Err(r) => none_read(r.fault.number(), r.place),
+        Ok(Header { version, next }) => {
             let table = token::table();
             let room = room_of(names.len(), qnames.len(), events.len());
             walk(&table, doc, names, qnames, events, room, version, next)

@@ -16,6 +16,8 @@ use Rattle.meaning.specs.Meaning.{Symbol, OpenAttribute, none_open, symbols_of, 
 use Rattle.meaning.specs.Codes.{codes_of}
 use Rattle.meaning.proofs.Codes.{codes_append}
 use Rattle.hash.specs.Hash.{hash_from, hash_of, seed}
+use Rattle.std.specs.Prelude.{Option, None}
+use Rattle.render_elements.specs.declared.Attribute.{Attribute}
 use Rattle.render_elements.specs.declared.Progress.{Progress}
 use Rattle.render.specs.Render.{Renderable, Rendered, room_for}
 use Rattle.marks.specs.Names.{class_in}
@@ -92,7 +94,7 @@ depth_few d t = go (eqb t 0xF8) (eqb t 0xF7)
 
 -- ---- an event and its row
 
-codes_open : (doc marks : List ℕ) (q token a b : ℕ) → eqb token 0xF8 ≡ true → codes_by doc marks q token a b ≡ opening_in marks a ∷ []
+codes_open : (doc marks : List ℕ) (q : Option Attribute) (token a b : ℕ) → eqb token 0xF8 ≡ true → codes_by doc marks q token a b ≡ opening_in marks a ∷ []
 unfolding codes_by
 codes_open doc marks q token a b e = rw e
 
@@ -114,7 +116,7 @@ module _ {doc names qnames events classes marks : List ℕ} {rows qrows count : 
   unfolding depth_after
   depth_is depth = rw (s.opens_is, s.closes_is, add-one)
 
-  emit_is : (depth q : ℕ) → codes_of (class_in doc names rows) (cond (inside depth ev) (symbols_of (attribute_of q) ev) [])
+  emit_is : (depth : ℕ) (q : Option Attribute) → codes_of (class_in doc names rows) (cond (inside depth ev) (symbols_of (attribute_of q) ev) [])
       ≡ row_by doc marks depth q e.token e.a e.b
   unfolding row_by codes_of
   emit_is zero q = rw s.opens_is (go (eqb e.token 0xF8) refl)
@@ -150,19 +152,19 @@ pub record RowsDone (doc names qnames events : List ℕ) (rows qrows count : ℕ
   pub last_in : last ≤ length doc
   pub whole : done ++ onto cur (pieces progress.depth (attribute_of progress.attribute) (map (event_of doc (name_rows_in rows names) (qname_rows_in qrows qnames)) (drop k (event_rows_in count events))))
       ≡ onto [] (pieces 0 none_open (map (event_of doc (name_rows_in rows names) (qname_rows_in qrows qnames)) (event_rows_in count events)))
-  pub syms_are : NumbersPut syms₀ 0 (flat (map (codes_of (class_in doc names rows)) done) ++ codes_of (class_in doc names rows) cur) syms progress.at
+  pub syms_are : NumbersPut syms₀ 0 (flat (map (codes_of (class_in doc names rows)) done) ++ codes_of (class_in doc names rows) cur) syms progress.cursor.at
   pub starts_are : NumbersPut starts₀ 0 (sums 0 (map (codes_of (class_in doc names rows)) done)) starts progress.records
   pub hashes_are : NumbersPut hashes₀ 0 (map hash_of (map (codes_of (class_in doc names rows)) done)) hashes progress.records
-  pub hash_is : progress.hash ≡ hash_of (codes_of (class_in doc names rows) cur)
+  pub hash_is : progress.cursor.hash ≡ hash_of (codes_of (class_in doc names rows) cur)
   pub ahead : Ahead doc rows qrows p (drop k (event_rows_in count events)) last
-  pub at_few : progress.at ≤ 5 * p + 2 * k
+  pub at_few : progress.cursor.at ≤ 5 * p + 2 * k
   pub n_few : 2 * progress.records ≤ k + min 1 progress.depth
   pub shallow : progress.depth ≤ k
   pub reached : k ≤ count
 
 module _ {doc names qnames events classes : List ℕ} {rows qrows count : ℕ} (d : Renderable doc names qnames events classes rows qrows count) where
   pub rows_first : (syms starts hashes : List ℕ) → RowsDone doc names qnames events rows qrows count syms starts hashes syms starts hashes 0
-      (record { at = 0; hash = seed; records = 0; depth = 0; attribute = 0 })
+      (record { cursor = record { at = 0; hash = seed }; records = 0; depth = 0; attribute = None })
   unfolding codes_of hash_from
   rows_first syms starts hashes =
       record {
@@ -243,15 +245,15 @@ module _ {doc names qnames events classes : List ℕ} {rows qrows count : ℕ} (
                 ∙ rw (done_codes cls s w.done w.cur, cur_codes cls s w.cur x))
                 (put_put w.syms_are y.symbols);
             starts_are = put_as
-                (sums_new s (map (codes_of cls) w.done) (codes_of cls w.cur) progress.at w.syms_are.to_is ∙ ap (sums 0) (done_codes cls s w.done w.cur))
+                (sums_new s (map (codes_of cls) w.done) (codes_of cls w.cur) progress.cursor.at w.syms_are.to_is ∙ ap (sums 0) (done_codes cls s w.done w.cur))
                 (put_put w.starts_are y.starts_are);
             hashes_are = put_as
-                (hashes_new s (map (codes_of cls) w.done) (codes_of cls w.cur) progress.hash w.hash_is ∙ ap (map hash_of) (done_codes cls s w.done w.cur))
+                (hashes_new s (map (codes_of cls) w.done) (codes_of cls w.cur) progress.cursor.hash w.hash_is ∙ ap (map hash_of) (done_codes cls s w.done w.cur))
                 (put_put w.hashes_are y.hashes_are);
-            hash_is = y.hash_is ∙ ap (hash_from (cond s seed progress.hash)) ex ∙ hash_new s (codes_of cls w.cur) (codes_of cls x) progress.hash w.hash_is ∙ ap hash_of (cur_codes cls s w.cur x);
+            hash_is = y.hash_is ∙ ap (hash_from (cond s seed progress.cursor.hash)) ex ∙ hash_new s (codes_of cls w.cur) (codes_of cls x) progress.cursor.hash w.hash_is ∙ ap hash_of (cur_codes cls s w.cur x);
             ahead = rw e1 here.3;
             at_few = omega (arith, y.symbols.to_is, w.at_few, reach.0);
-            n_few = rw y.depth_is (deep progress.depth row.token progress.records r.records k (count_new s progress.at progress.records r.records y.starts_are.to_is) w.n_few);
+            n_few = rw y.depth_is (deep progress.depth row.token progress.records r.records k (count_new s progress.cursor.at progress.records r.records y.starts_are.to_is) w.n_few);
             shallow = rw y.depth_is (omega (arith, w.shallow));
             reached = omega arith;
           }
@@ -261,7 +263,7 @@ module _ {doc names qnames events classes : List ℕ} {rows qrows count : ℕ} (
         pub row_fits : RowFits doc token a (get_or events (event_width * k + 3) 0)
         row_fits = rw (et, ea) said.fits
 
-        pub row_room : room_for (length doc) count ≤ length syms₀ → progress.at + room_by token (get_or events (event_width * k + 3) 0) ≤ length syms
+        pub row_room : room_for (length doc) count ≤ length syms₀ → progress.cursor.at + room_by token (get_or events (event_width * k + 3) 0) ≤ length syms
         row_room g = rw et (omega (arith, reach.0, reach.1, w.at_few, syms_long))
 
         pub rows_turn : Bytes doc → {syms' starts' hashes' : List ℕ} {r : Progress} → RowDone doc marks token a (get_or events (event_width * k + 3) 0) syms starts hashes progress syms' starts' hashes' r
@@ -269,7 +271,7 @@ module _ {doc names qnames events classes : List ℕ} {rows qrows count : ℕ} (
         rows_turn bytes y = rows_next bytes (rw (et, ea) at y)
 
     pub rows_end_fact : count ≤ k → room_for (length doc) count ≤ length syms₀ → length starts₀ ≡ 2049 → length hashes₀ ≡ 2049
-        → Rendered doc names qnames events rows qrows count syms (set starts progress.records progress.at) (set hashes progress.records progress.hash) progress.records
+        → Rendered doc names qnames events rows qrows count syms (set starts progress.records progress.cursor.at) (set hashes progress.records progress.cursor.hash) progress.records
     unfolding events_in meanings
     rows_end_fact h hs ht hh =
         let cls : List ℕ → ℕ = class_in doc names rows in
@@ -283,14 +285,14 @@ module _ {doc names qnames events classes : List ℕ} {rows qrows count : ℕ} (
         let e3 : ps ≡ onto [] (pieces 0 none_open evs) = ap (λ (l : List Symbol). w.done ++ (l ∷ [])) (sym (append-nil w.cur)) ∙ e2 in
         let e4 : rest ps ≡ rest (pieces 0 none_open evs) = ap rest e3 ∙ rest_onto (pieces 0 none_open evs) in
         let c1 : map (codes_of cls) w.done ++ (codes_of cls w.cur ∷ []) ≡ cs = sym (map_snoc cls w.done w.cur) in
-        let a1 : NumbersPut starts₀ 0 (sums 0 (map (codes_of cls) w.done) ++ (progress.at ∷ [])) (set starts n progress.at) (n + 1) = put_put w.starts_are (put_set starts n progress.at) in
-        let a2 : sums 0 (map (codes_of cls) w.done) ++ (progress.at ∷ []) ≡ sums 0 cs
-        = sums_new true (map (codes_of cls) w.done) (codes_of cls w.cur) progress.at w.syms_are.to_is ∙ ap (sums 0) c1 in
-        let g1 : NumbersPut hashes₀ 0 (map hash_of (map (codes_of cls) w.done) ++ (progress.hash ∷ [])) (set hashes n progress.hash) (n + 1) = put_put w.hashes_are (put_set hashes n progress.hash) in
-        let g2 : map hash_of (map (codes_of cls) w.done) ++ (progress.hash ∷ []) ≡ map hash_of cs
-        = hashes_new true (map (codes_of cls) w.done) (codes_of cls w.cur) progress.hash w.hash_is ∙ ap (map hash_of) c1 in
+        let a1 : NumbersPut starts₀ 0 (sums 0 (map (codes_of cls) w.done) ++ (progress.cursor.at ∷ [])) (set starts n progress.cursor.at) (n + 1) = put_put w.starts_are (put_set starts n progress.cursor.at) in
+        let a2 : sums 0 (map (codes_of cls) w.done) ++ (progress.cursor.at ∷ []) ≡ sums 0 cs
+        = sums_new true (map (codes_of cls) w.done) (codes_of cls w.cur) progress.cursor.at w.syms_are.to_is ∙ ap (sums 0) c1 in
+        let g1 : NumbersPut hashes₀ 0 (map hash_of (map (codes_of cls) w.done) ++ (progress.cursor.hash ∷ [])) (set hashes n progress.cursor.hash) (n + 1) = put_put w.hashes_are (put_set hashes n progress.cursor.hash) in
+        let g2 : map hash_of (map (codes_of cls) w.done) ++ (progress.cursor.hash ∷ []) ≡ map hash_of cs
+        = hashes_new true (map (codes_of cls) w.done) (codes_of cls w.cur) progress.cursor.hash w.hash_is ∙ ap (map hash_of) c1 in
         let b1 : flat (map (codes_of cls) w.done) ++ codes_of cls w.cur ≡ flat cs = sym (flat_snoc (map (codes_of cls) w.done) (codes_of cls w.cur)) ∙ ap flat c1 in
-        let f1 : progress.at ≡ 0 + length (flat cs) = w.syms_are.to_is ∙ ap (λ (l : List ℕ). 0 + length l) b1 in
+        let f1 : progress.cursor.at ≡ 0 + length (flat cs) = w.syms_are.to_is ∙ ap (λ (l : List ℕ). 0 + length l) b1 in
         let f2 : length ps ≡ suc n = simp length-append (omega (arith, w.starts_are.to_is, sums_long 0 (map (codes_of cls) w.done), length-map w.done (codes_of cls))) in
         let f3 : length cs ≡ suc n = length-map ps (codes_of cls) ∙ f2 in
         let f4 : w.p ≤ w.last = ahead_le doc rows qrows w.p (drop k (event_rows_in count events)) w.last w.ahead in

@@ -14,8 +14,8 @@ use Rattle.token.specs.Tokens.{Token, tokens, find, class_of, shape_of}
 use Rattle.token.specs.declared.Class.{Class}
 use Rattle.token.specs.declared.Class.TheVariants as class
 use Rattle.token.specs.declared.Shape.{Shape}
-use Rattle.value.specs.Fields.{text_at, field_at}
-use Rattle.value.specs.declared.Text.TheVariants as text
+use Rattle.value.specs.Fields.{text, text_at, field_at}
+use Rattle.std.specs.Prelude.{Ok}
 use Rattle.value.specs.declared.Field.TheVariants as field
 use Rattle.value.proofs.Fields.{field_inside, payload_inside, text_lies, is_lies}
 use Rattle.machine.specs.Machine.{EventRow}
@@ -87,10 +87,10 @@ value_code_lem code c = found_low code tokens refl (by c)
 -- ---- rows
 
 module _ (doc : List ℕ) where
-  pub text_there : (at : ℕ) {place units : ℕ} → text_at 5 doc at ≡ text.Is place units → (at < place) × (place + 2 * units ≤ length doc)
+  pub text_there : (at : ℕ) {place units : ℕ} → text_at 5 doc at ≡ Ok (text place units) → (at < place) × (place + 2 * units ≤ length doc)
   text_there at e = let l = is_lies (length doc) at e (text_lies 5 doc at) in (l.0, l.1)
 
-  pub payload_there : (shape : Shape) (at : ℕ) {place size : ℕ} → field_at shape doc at ≡ field.Payload place size → (at < place) × (place + size ≤ length doc)
+  pub payload_there : (shape : Shape) (at : ℕ) {place size : ℕ} → field_at shape doc at ≡ Ok (field.Payload place size) → (at < place) × (place + size ≤ length doc)
   payload_there shape at e = payload_inside (length doc) at e (field_inside shape doc at)
 
   module _ (m n : ℕ) where

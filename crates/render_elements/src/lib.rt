@@ -5,19 +5,19 @@ ghost use Rattle.std.specs.Prelude.{◌≡◌, cond, [], ◌∷◌, ◌++◌, �
 ghost use Rattle.meaning.specs.Codes.{mark, attribute_kind, end_kind};
 ghost use Rattle.symbols.specs.Store.{PutHashed};
 ghost use Rattle.marks.specs.Marks.{opening_in, declared_in, declaring};
-ghost use Rattle.render_elements.specs.Codes.{nothing_open, counted_open, skipped_open, close_by, unless_out};
-ghost use Rattle.render_elements.specs.Effects.{cursor_of, moved_to, attributed, Begun, RowPut};
+ghost use Rattle.render_elements.specs.Codes.{close_by, unless_out};
+ghost use Rattle.render_elements.specs.Effects.{moved_to, Begun, RowPut};
 ghost use Rattle.token.specs.Tokens.{qname_rows, event_rows};
 ghost use Rattle.twins.specs.Search.{part_bounds};
 
 use symbols::Cursor;
 
-// The open attribute: none, one that counts, one that does not.
-pub const NONE_OPEN: usize = 0;
-
-pub const COUNTED_OPEN: usize = 1;
-
-pub const SKIPPED_OPEN: usize = 2;
+// An open attribute: one that counts, or one that does not.
+#[derive(Clone, Copy)]
+pub enum Attribute {
+    Counted,
+    Skipped,
+}
 
 // ---- rows
 
@@ -25,124 +25,95 @@ pub const SKIPPED_OPEN: usize = 2;
 // begun; how many elements are open; and the open attribute.
 #[derive(Clone, Copy)]
 pub struct Progress {
-    pub at: usize,
-    pub hash: u64,
+    pub cursor: Cursor,
     pub records: usize,
     pub depth: usize,
-    pub attribute: usize,
-}
-
-pub fn cursor_of(p: Progress) -> Cursor
-    ensures { result ≡ cursor_of p }
-{
-    Cursor {
-        at: p.at,
-        hash: p.hash,
-    }
+    pub attribute: Option<Attribute>,
 }
 
 // After numbers were written.
-pub fn moved(p: Progress, i: Cursor) -> Progress
-    ensures { result ≡ moved_to p i }
+pub fn moved(p: Progress, cursor: Cursor) -> Progress
+    ensures { result ≡ moved_to p cursor }
 {
-    Progress {
-        at: i.at,
-        hash: i.hash,
-        records: p.records,
-        depth: p.depth,
-        attribute: p.attribute,
-    }
-}
-
-fn with_attribute(p: Progress, attribute: usize) -> Progress
-    ensures { result ≡ attributed p attribute }
-{
-    Progress {
-        at: p.at,
-        hash: p.hash,
-        records: p.records,
-        depth: p.depth,
-        attribute,
-    }
+    Progress { cursor, ..p }
 }
 
 // Where no element is open a record begins: the place of its first number, and the hash of the record before it.
+#[tactic(auto, using(crate::proofs::Rows::begun_deep, crate::proofs::Rows::begun_here))]
 pub fn begin(
     starts: &mut [usize; twins::BOUNDS],
     hashes: &mut [u64; twins::BOUNDS],
     p: Progress,
 ) -> Progress
-    requires { (p.records < part_bounds) × (length starts.old ≡ part_bounds) × (length hashes.old ≡ part_bounds) }
+    requires { p.records < part_bounds }
     ensures { Begun starts.old hashes.old p starts.new hashes.new result }
 {
     if p.depth != 0 {
         return p;
     }
     let n = p.records;
-    starts[n] = p.at;
-    hashes[n] = p.hash;
+    starts[n] = p.cursor.at;
+    hashes[n] = p.cursor.hash;
     Progress {
-        at: p.at,
-        hash: hash::SEED,
+        cursor: Cursor {
+            hash: hash::SEED,
+            ..p.cursor
+        },
         records: n + 1,
-        depth: p.depth,
-        attribute: p.attribute,
+        ..p
     }
 }
 
 // ELEMENT.
 pub fn open(marks: &[u32; token::QNAME_ROWS], syms: &mut [u32], p: Progress, row: usize) -> Progress
-    requires { (1 ≤ row) × (row ≤ qname_rows) × (p.at < length syms.old) × (p.depth ≤ event_rows) }
+    requires { (1 ≤ row) × (row ≤ qname_rows) × (p.cursor.at < length syms.old) × (p.depth ≤ event_rows) }
     ensures { RowPut (opening_in marks.now row ∷ []) p.attribute (p.depth + 1) syms.old p syms.new result }
 {
     let mark = marks[row - 1] % marks::DECLARING;
-    let i = symbols::put_one(syms, cursor_of(p), mark);
+    let cursor = symbols::put_one(syms, p.cursor, mark);
     Progress {
-        at: i.at,
-        hash: i.hash,
-        records: p.records,
+        cursor,
         depth: p.depth + 1,
-        attribute: p.attribute,
+        ..p
     }
 }
 
 // ENDELEMENT.
 pub fn close(syms: &mut [u32], p: Progress) -> Progress
-    requires { p.at < length syms.old }
+    requires { p.cursor.at < length syms.old }
     ensures { RowPut (unless_out p.depth (mark end_kind 0 ∷ [])) p.attribute (p.depth - 1) syms.old p syms.new result }
 {
     if p.depth == 0 {
         return p;
     }
-    let i = symbols::put_one(syms, cursor_of(p), symbols::END_MARK);
+    let cursor = symbols::put_one(syms, p.cursor, symbols::END_MARK);
     Progress {
-        at: i.at,
-        hash: i.hash,
-        records: p.records,
+        cursor,
         depth: p.depth - 1,
-        attribute: p.attribute,
+        ..p
     }
 }
 
 // An open attribute that counts is closed.
-fn put_close(syms: &mut [u32], i: Cursor, attribute: usize) -> Cursor
+fn put_close(syms: &mut [u32], i: Cursor, attribute: Option<Attribute>) -> Cursor
     requires { i.at < length syms.old }
     ensures { PutHashed syms.old i (close_by attribute) syms.new result }
 {
-    if attribute == COUNTED_OPEN {
-        return symbols::put_one(syms, i, symbols::CLOSING_MARK);
+    match attribute {
+        Some(Attribute::Counted) => symbols::put_one(syms, i, symbols::CLOSING_MARK),
+        Some(Attribute::Skipped) => i,
+        None => i,
     }
-    i
 }
 
 // The attribute that a mark opens: one that declares a prefix does not count.
-fn counts(mark: u32) -> usize
-    ensures { result ≡ cond (leb declaring mark) skipped_open counted_open }
+fn counts(mark: u32) -> Attribute
+    ensures { result ≡ cond (leb declaring mark) Attribute.Skipped Attribute.Counted }
 {
     if marks::DECLARING <= mark {
-        SKIPPED_OPEN
+        Attribute::Skipped
     } else {
-        COUNTED_OPEN
+        Attribute::Counted
     }
 }
 
@@ -153,34 +124,39 @@ pub fn put_attribute(
     p: Progress,
     row: usize,
 ) -> Progress
-    requires { (1 ≤ row) × (row ≤ qname_rows) × (p.at + 1 < length syms.old) }
+    requires { (1 ≤ row) × (row ≤ qname_rows) × (p.cursor.at + 1 < length syms.old) }
     ensures { RowPut (unless_out p.depth (close_by p.attribute ++ cond (declared_in marks.now row) [] ((opening_in marks.now row + attribute_kind) ∷ [])))
-        (cond (declared_in marks.now row) skipped_open counted_open) p.depth syms.old p syms.new result }
+        (cond (declared_in marks.now row) (Some Attribute.Skipped) (Some Attribute.Counted)) p.depth syms.old p syms.new result }
 {
     let mark = marks[row - 1];
+    let next = Progress {
+        attribute: Some(counts(mark)),
+        ..p
+    };
     if p.depth == 0 {
-        return with_attribute(p, counts(mark));
+        return next;
     }
-    let i = put_close(syms, cursor_of(p), p.attribute);
+    let i = put_close(syms, p.cursor, p.attribute);
     if marks::DECLARING <= mark {
-        return with_attribute(moved(p, i), SKIPPED_OPEN);
+        return moved(next, i);
     }
-    with_attribute(
-        moved(p, symbols::put_one(syms, i, mark + meaning::ATTRIBUTE_KIND)),
-        COUNTED_OPEN,
+    moved(
+        next,
+        symbols::put_one(syms, i, mark + meaning::ATTRIBUTE_KIND),
     )
 }
 
 // ENDATTRIBUTES.
 pub fn end_attributes(syms: &mut [u32], p: Progress) -> Progress
-    requires { p.at < length syms.old }
-    ensures { RowPut (unless_out p.depth (close_by p.attribute)) nothing_open p.depth syms.old p syms.new result }
+    requires { p.cursor.at < length syms.old }
+    ensures { RowPut (unless_out p.depth (close_by p.attribute)) None p.depth syms.old p syms.new result }
 {
+    let closed = Progress {
+        attribute: None,
+        ..p
+    };
     if p.depth == 0 {
-        return with_attribute(p, NONE_OPEN);
+        return closed;
     }
-    with_attribute(
-        moved(p, put_close(syms, cursor_of(p), p.attribute)),
-        NONE_OPEN,
-    )
+    moved(closed, put_close(syms, p.cursor, p.attribute))
 }

@@ -16,8 +16,8 @@ use Rattle.token.specs.Tokens.{Token, token, tokens, find, class_of, shape_of}
 use Rattle.token.specs.declared.Class.{Class}
 use Rattle.token.specs.declared.Class.TheVariants as class
 use Rattle.token.specs.declared.Shape.TheVariants.{Nothing}
-use Rattle.value.specs.Fields.{text_at}
-use Rattle.value.specs.declared.Text.TheVariants as text
+use Rattle.value.specs.Fields.{text, text_at}
+use Rattle.std.specs.Prelude.{Ok}
 use Rattle.value.proofs.Fields.{field_inside, payload_inside, text_lies, is_lies, payload_lawful, not_qname}
 use Rattle.machine.specs.Machine.{NameRow, QnameRow, EventRow, event, Event, texted, standalone, pi, qnamed, valued, nest, plain, name_text, data_in, qname_event, event_by, event_of}
 use Rattle.machine.specs.Facts as facts
@@ -74,7 +74,7 @@ at_row (a ∷ l) zero h = (a, refl)
 at_row (a ∷ l) (suc k) h = at_row l k (omega arith)
 
 module _ (doc : List ℕ) (N : List NameRow) (Q : List QnameRow) where
-  text_inside : (at : ℕ) {place units : ℕ} → text_at 5 doc at ≡ text.Is place units → place + 2 * units ≤ length doc
+  text_inside : (at : ℕ) {place units : ℕ} → text_at 5 doc at ≡ Ok (text place units) → place + 2 * units ≤ length doc
   text_inside at e = (is_lies (length doc) at e (text_lies 5 doc at)).1
 
   refer_meets : (code row : ℕ) → code < 256 → 1 ≤ row → row ≤ length Q → (e : Event) → e ≡ qname_event doc N Q code row → Meets doc N Q (Refer code row) e

@@ -17,7 +17,8 @@ use Rattle.token.specs.declared.Shape.TheVariants.{Nothing, Fixed, Text, Blob, C
 use borrow.Author.Tests.{ltb-true, ltb-false, leb-true, leb-false}
 use Rattle.value.specs.Fields.{text_at}
 use Rattle.value.specs.declared.Text as texts
-use Rattle.value.specs.declared.Text.TheVariants as text
+use Rattle.std.specs.Prelude.{Result, Ok, Err}
+use Rattle.token.specs.declared.Refusal.{Refusal}
 use Rattle.machine.specs.Machine.{NameRow, QnameRow, EventRow, Event, data_in, event_of}
 use Rattle.machine.specs.Balance.{Opened, check}
 use Rattle.machine.specs.Tables.{class_count}
@@ -43,10 +44,10 @@ use Rattle.rewriter.proofs.Acts.{Said, Kept, acts, bytes_of}
 
 -- ---- an item's bytes are few, and its numbers low
 
-data_few : (doc : List ℕ) (t : texts.Text) → length (with_units (data_in doc t)) ≤ 5 + length doc
+data_few : (doc : List ℕ) (t : Result texts.Text Refusal) → length (with_units (data_in doc t)) ≤ 5 + length doc
 unfolding with_units
-data_few doc (text.Is place units) = counted_few doc place (2 * units)
-data_few doc (text.Refused number place) = let h = shortest_few 0 in simp length-append (omega arith)
+data_few doc (Ok t) = counted_few doc t.place (2 * t.units)
+data_few doc (Err r) = let h = shortest_few 0 in simp length-append (omega arith)
 
 length_few : (shape : Shape) (p : List ℕ) → length (length_of shape p) ≤ 5
 unfolding length_of

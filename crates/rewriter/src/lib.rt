@@ -6,93 +6,55 @@ ghost use Rattle.std.specs.Prelude.{◌≡◌, ◌+◌, ◌*◌, ◌≤◌, ◌<
 ghost use Rattle.token.specs.Entries.{Listed};
 ghost use Rattle.token.specs.Tokens.{event_width, event_rows, nested_documents};
 ghost use Rattle.machine.specs.Machine.{reading, room_in};
-ghost use Rattle.machine.specs.Tables.{events_in};
-ghost use Rattle.form.specs.Canonical.{canonical};
+ghost use Rattle.rewriter.specs.Forms.{form_in};
 ghost use Rattle.form_output.specs.Output.{Fits, Put, far_items};
 ghost use Rattle.form_slots.specs.Slots.{Low, Trails, low_items};
-ghost use Rattle.form_items.specs.Walk.{tables, base_at, bytes_for, item_at, Either, Turned, Ready, ItemFits, Prepared};
+ghost use Rattle.form_items.specs.Walk.{tables_of, base_at, bytes_for, item_at, Either, Turned, Ready, ItemFits, Prepared};
 ghost use Rattle.rewriter_contract.specs.Contract.{answer, FormWritten, Rewrites};
 
-use form_items::Spot;
+use form_items::{Source, Spot};
+use form_names::Texts;
+use form_slots::Defined;
 use rewriter_contract::Answer;
 
 // One row of events.
 fn turn(
-    table: &[u16; 256],
-    doc: &[u8],
-    names: &[u32],
-    qnames: &[u32],
+    source: &Source,
     events: &[u32],
-    classes: &[u32; token::NAME_ROWS],
-    qclasses: &[u32; token::QNAME_ROWS],
     out: &mut [u8],
-    slots: &mut [u16; form_slots::SLOTS],
-    qslots: &mut [u16; form_slots::SLOTS],
-    rows: usize,
-    qrows: usize,
+    defined: &mut Defined,
     i: usize,
     w: Spot,
 ) -> Spot
-    requires { Listed table.now × (i < event_rows) × (event_width * i + event_width ≤ length events.now) × (get_or events.now (event_width * i) 0 < 256)
-        × Ready (tables doc.now names.now qnames.now classes.now qclasses.now) rows qrows
-        × ItemFits (tables doc.now names.now qnames.now classes.now qclasses.now) rows qrows w.depth (item_at events.now i)
-        × Low low_items slots.old × Low low_items qslots.old × (w.depth ≤ nested_documents) × (w.at ≤ far_items)
-        × Fits (length out.old) w.at (length (bytes_for (tables doc.now names.now qnames.now classes.now qclasses.now) slots.old qslots.old (base_at w.depth) (item_at events.now i)))
-        × Trails slots.old × Trails qslots.old }
-    ensures { Turned (tables doc.now names.now qnames.now classes.now qclasses.now)
-        slots.old qslots.old out.old slots.new qslots.new out.new w (item_at events.now i) result }
+    requires { Listed source.now.table.now × (i < event_rows) × (event_width * i + event_width ≤ length events.now) × (get_or events.now (event_width * i) 0 < 256)
+        × Ready (tables_of source.now) source.now.texts.rows source.now.qrows
+        × ItemFits (tables_of source.now) source.now.texts.rows source.now.qrows w.depth (item_at events.now i)
+        × Low low_items defined.old.names × Low low_items defined.old.qnames × (w.depth ≤ nested_documents) × (w.at ≤ far_items)
+        × Fits (length out.old) w.at (length (bytes_for (tables_of source.now) defined.old.names defined.old.qnames (base_at w.depth) (item_at events.now i)))
+        × Trails defined.old.names × Trails defined.old.qnames }
+    ensures { Turned (tables_of source.now)
+        defined.old.names defined.old.qnames out.old defined.new.names defined.new.qnames out.new w (item_at events.now i) result }
 {
-    let item = form_items::look(table, events, i);
+    let item = form_items::look(source.table, events, i);
     let depth = form_items::depth_after(item, w.depth);
-    let at = form_items::write(
-        table, doc, names, qnames, classes, qclasses, out, slots, qslots, rows, qrows, w, item,
-    );
+    let at = form_items::write(source, out, defined, w, item);
     Spot { at, depth }
 }
 
 // Writes the form of the rows, or only measures it over an output of at most one byte; gives its length.
-fn walk(
-    table: &[u16; 256],
-    doc: &[u8],
-    names: &[u32],
-    qnames: &[u32],
-    events: &[u32],
-    classes: &[u32; token::NAME_ROWS],
-    qclasses: &[u32; token::QNAME_ROWS],
-    out: &mut [u8],
-    read: machine::Answer,
-) -> usize
-    requires { Listed table.now × Prepared (tables doc.now names.now qnames.now classes.now qclasses.now) events.now read.names read.qnames read.events
-        × (read.version ≤ 2)
-        × Either (length out.old) (length (canonical read.version (events_in doc.now names.now qnames.now events.now read.names read.qnames read.events))) }
-    ensures { Put out.old out.new 0 result (canonical read.version
-        (events_in doc.now names.now qnames.now events.now read.names read.qnames read.events)) }
+fn walk(source: &Source, events: &[u32], count: usize, version: usize, out: &mut [u8]) -> usize
+    requires { Listed source.now.table.now × Prepared (tables_of source.now) events.now source.now.texts.rows source.now.qrows count
+        × (version ≤ 2) × Either (length out.old) (length (form_in source.now events.now count version)) }
+    ensures { Put out.old out.new 0 result (form_in source.now events.now count version) }
 {
-    let mut slots = [0u16; form_slots::SLOTS];
-    let mut qslots = [0u16; form_slots::SLOTS];
-    let rows = read.names;
-    let qrows = read.qnames;
-    let at = form_bytes::put_header(out, 0, read.version as u8);
+    let mut defined = Defined {
+        names: [0u16; form_slots::SLOTS],
+        qnames: [0u16; form_slots::SLOTS],
+    };
+    let at = form_bytes::put_header(out, 0, version as u8);
     let mut w = Spot { at, depth: 0 };
-    let mut i: usize = 0;
-    while i < read.events {
-        w = turn(
-            table,
-            doc,
-            names,
-            qnames,
-            events,
-            classes,
-            qclasses,
-            out,
-            &mut slots,
-            &mut qslots,
-            rows,
-            qrows,
-            i,
-            w,
-        );
-        i += 1;
+    for i in 0..count {
+        w = turn(source, events, out, &mut defined, i, w);
     }
     w.at
 }
@@ -110,36 +72,20 @@ fn refused(number: u32, place: usize) -> Answer
 
 // Measures the form of an accepted document, and writes it where it is not too long and the output has the room.
 #[tactic(auto, using(rewriter_contract::proofs::Forms::form_long, rewriter_contract::proofs::Forms::room_small))]
-fn write_form(
-    table: &[u16; 256],
-    doc: &[u8],
-    names: &[u32],
-    qnames: &[u32],
-    events: &[u32],
-    classes: &[u32; token::NAME_ROWS],
-    qclasses: &[u32; token::QNAME_ROWS],
-    out: &mut [u8],
-    read: machine::Answer,
-) -> Answer
-    requires { Listed table.now × Prepared (tables doc.now names.now qnames.now classes.now qclasses.now) events.now read.names read.qnames read.events
+fn write_form(source: &Source, events: &[u32], out: &mut [u8], read: machine::Answer) -> Answer
+    requires { Listed source.now.table.now × Prepared (tables_of source.now) events.now source.now.texts.rows source.now.qrows read.events
         × (read.version ≤ 2) }
-    ensures { FormWritten (canonical read.version
-        (events_in doc.now names.now qnames.now events.now read.names read.qnames read.events))
-        read.place out.old out.new result }
+    ensures { FormWritten (form_in source.now events.now read.events read.version) read.place out.old out.new result }
 {
     let mut none = [0u8; 1];
-    let size = walk(
-        table, doc, names, qnames, events, classes, qclasses, &mut none, read,
-    );
+    let size = walk(source, events, read.events, read.version, &mut none);
     if token::LONGEST < size {
         return refused(token::FORM_TOO_LONG, size);
     }
     if out.len() < size {
         return refused(token::NO_ROOM, size);
     }
-    walk(
-        table, doc, names, qnames, events, classes, qclasses, out, read,
-    );
+    walk(source, events, read.events, read.version, out);
     Answer {
         number: token::ACCEPTED,
         place: read.place,
@@ -177,7 +123,17 @@ pub fn rewrite(
         &classes,
         &mut qclasses,
     );
-    write_form(
-        &table, doc, names, qnames, events, &classes, &qclasses, out, read,
-    )
+    let source = Source {
+        table: &table,
+        texts: Texts {
+            doc,
+            names,
+            rows: read.names,
+        },
+        qnames,
+        qrows: read.qnames,
+        classes: &classes,
+        qclasses: &qclasses,
+    };
+    write_form(&source, events, out, read)
 }

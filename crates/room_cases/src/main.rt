@@ -49,18 +49,15 @@ fn write_report(
         names,
         qnames,
         events,
-        slices::least(
-            a.names,
-            slices::least(names.len() / token::NAME_WIDTH, token::NAME_ROWS),
-        ),
-        slices::least(
-            a.qnames,
-            slices::least(qnames.len() / token::QNAME_WIDTH, token::QNAME_ROWS),
-        ),
-        slices::least(
-            a.events,
-            slices::least(events.len() / token::EVENT_WIDTH, token::EVENT_ROWS),
-        ),
+        a.names
+            .min(names.len() / token::NAME_WIDTH)
+            .min(token::NAME_ROWS),
+        a.qnames
+            .min(qnames.len() / token::QNAME_WIDTH)
+            .min(token::QNAME_ROWS),
+        a.events
+            .min(events.len() / token::EVENT_WIDTH)
+            .min(token::EVENT_ROWS),
     );
     let from = print_reading::put_answer(&mut text, end, a);
     rt.write_all(&text[from..])
@@ -76,51 +73,43 @@ fn read_into(rt: &impl Print, doc: &[u8], n: usize, q: usize, e: usize) -> io::R
         &mut names,
         &mut qnames,
         &mut events,
-        slices::least(n, 64),
-        slices::least(q, 64),
-        slices::least(e, 512),
+        n.min(64),
+        q.min(64),
+        e.min(512),
     );
     write_report(rt, &names, &qnames, &events, a)?;
     report_change(
         rt,
         &names,
-        token::NAME_WIDTH * slices::least(a.names, token::NAME_ROWS),
+        token::NAME_WIDTH * a.names.min(token::NAME_ROWS),
     )?;
     report_change(
         rt,
         &qnames,
-        token::QNAME_WIDTH * slices::least(a.qnames, token::QNAME_ROWS),
+        token::QNAME_WIDTH * a.qnames.min(token::QNAME_ROWS),
     )?;
     report_change(
         rt,
         &events,
-        token::EVENT_WIDTH * slices::least(a.events, token::EVENT_ROWS),
+        token::EVENT_WIDTH * a.events.min(token::EVENT_ROWS),
     )
 }
 
 fn case(rt: &impl Print, line: &[u8]) -> io::Result<()> {
     let mut doc = [0u8; 4096];
-    let a = cases::word_end(line, 0);
-    let size = cases::bytes(&line[..a], &mut doc);
-    let b = cases::after_space(line, a);
-    let c = cases::word_end(line, b);
-    let d = cases::after_space(line, c);
-    let e = cases::word_end(line, d);
-    let f = cases::after_space(line, e);
-    let n = cases::decimal(&line[b..c]);
-    let q = cases::decimal(&line[d..e]);
-    let v = cases::decimal(&line[f..]);
+    let mut words = line.split(|b| *b == b' ');
+    let size = cases::bytes(words.next().unwrap_or(b""), &mut doc);
+    let n = cases::decimal(words.next().unwrap_or(b""));
+    let q = cases::decimal(words.next().unwrap_or(b""));
+    let e = cases::decimal(words.next().unwrap_or(b""));
     rt.write_all(line)?;
     rt.write_all(b"\n")?;
-    read_into(rt, &doc[..size], n, q, v)
+    read_into(rt, &doc[..size], n, q, e)
 }
 
 fn run(rt: &impl Print, text: &[u8]) -> io::Result<()> {
-    let mut at = 0;
-    while at < text.len() {
-        let end = cases::line_end(text, at);
-        case(rt, &text[at..end])?;
-        at = end + 1;
+    for line in text.split_inclusive(|b| *b == b'\n') {
+        case(rt, line.strip_suffix(b"\n").unwrap_or(line))?;
     }
     Ok(())
 }

@@ -1,3 +1,2 @@
 pub mod Puts
-pub mod Stack
 pub mod Scopes

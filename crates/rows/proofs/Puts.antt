@@ -8,8 +8,7 @@ use lib.Seq.{sets}
 use Rattle.sequences.specs.Lists.{overlay}
 use Rattle.sequences.proofs.Overlay.{overlay_sets}
 use Rattle.machine.specs.Machine.{NameRow, QnameRow, EventRow, name_row, qname_row, event, flat_names, flat_qnames, flat_events}
-use Rattle.rows.specs.Tables.{put2, put3, put4, put6}
-use Rattle.modes.specs.declared.View.{View}
+use Rattle.rows.specs.Tables.{put2, put3, put4}
 use Rattle.machine.proofs.Rows.{length_names, length_qnames, length_events, flat_names_lem, flat_qnames_lem, flat_events_lem}
 use Rattle.token.specs.Tokens.{name_width, qname_width, event_width}
 
@@ -29,16 +28,6 @@ run4 l row a b c d =
     let f : event_width * row + 2 ≡ suc (suc (event_width * row)) = omega arith in
     let g : event_width * row + 3 ≡ suc (suc (suc (event_width * row))) = omega arith in
     rw (e, f, g)
-
-pub run6 : (l : List ℕ) (row : ℕ) (v : View)
-    → put6 l row v ≡ sets l (6 * row) (v.base ∷ v.known ∷ v.qbase ∷ v.qknown ∷ v.elements ∷ v.version ∷ [])
-run6 l row v =
-    let e : 6 * row + 1 ≡ suc (6 * row) = omega arith in
-    let f : 6 * row + 2 ≡ suc (suc (6 * row)) = omega arith in
-    let g : 6 * row + 3 ≡ suc (suc (suc (6 * row))) = omega arith in
-    let h : 6 * row + 4 ≡ suc (suc (suc (suc (6 * row)))) = omega arith in
-    let i : 6 * row + 5 ≡ suc (suc (suc (suc (suc (6 * row))))) = omega arith in
-    rw (e, f, g, h, i)
 
 pub names_put : (rs : List NameRow) (l : List ℕ) (place units : ℕ) → name_width * length rs + name_width ≤ length l
     → put2 (overlay (flat_names rs) l) (length rs) place units ≡ overlay (flat_names (rs ++ (name_row place units ∷ []))) l

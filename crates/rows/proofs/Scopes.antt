@@ -1,16 +1,15 @@
 -- The names and qnames of all open documents as one stack, and what returns after a nested document. Assumes nothing.
-use Prim.Native.Nat.{ℕ, zero, suc, ◌+◌, ◌*◌, ◌≤◌, ◌<◌}
-use mathlib.Core.Path.{◌≡◌, refl, sym, ◌∙◌, ap, subst}
-use mathlib.Core.List.{List, [], ◌∷◌, ◌++◌, append_assoc, append-nil}
+use Prim.Native.Nat.{ℕ, zero, suc, ◌+◌, ◌≤◌, ◌<◌}
+use mathlib.Core.Path.{◌≡◌, refl, sym, ◌∙◌, ap}
+use mathlib.Core.List.{List, [], ◌∷◌, ◌++◌, append_assoc}
 use native.Mathlib.Omega.{arith}
-use lib.ListN.{length, get_or, set, length-append, length-set}
-use lib.Seq.{sets, take-append_seam, get_or-append-add}
+use lib.ListN.{length, get_or, set, take, length-append}
+use lib.Seq.{take-append_seam, take-suc-set, take-take, get_or-take, get_or-append-add}
 use Rattle.sequences.specs.Arrays.{Front}
 use Rattle.sequences.proofs.Overlay.{front_push, front_take, front_at}
 use Rattle.machine.specs.Machine.{Scope, names_in, qnames_in, row_of}
-use Rattle.rows.specs.Tables.{row_at, put6}
-use Rattle.rows.proofs.Puts.{run6}
-use Rattle.modes.specs.declared.View.{View}
+use Rattle.rows.specs.Tables.{row_at}
+use Rattle.rows.specs.declared.Frame.{Frame}
 
 -- ---- stacks
 
@@ -35,44 +34,44 @@ row_same below rows stack (suc number) h f =
     let l : length below + number < length (below ++ rows) = simp length-append (omega arith) in
     front_at (below ++ rows) stack (length below + number) l f ∙ get_or-append-add below rows number 0
 
--- a run pushed at once
-pub front_sets : (more stack l : List ℕ) → length stack + length more ≤ length l → Front stack l → Front (stack ++ more) (sets l (length stack) more)
-front_sets [] stack l h f = rw append-nil f
-front_sets (x ∷ more) stack l h f =
-    let e : length (stack ++ (x ∷ [])) ≡ suc (length stack) = simp length-append (omega arith) in
-    let p = front_push stack l x (omega arith) f in
-    let k : length (stack ++ (x ∷ [])) + length more ≤ length (set l (length stack) x) = simp (length-append, length-set) (omega arith) in
-    let i = front_sets more (stack ++ (x ∷ [])) (set l (length stack) x) k p in
-    rw (append_assoc, e) at i
-
 -- ---- frames, the outermost document's first
 
-abbrev pub frame_of : Scope → List Scope → List ℕ
-frame_of o os = length (names_in os) ∷ length o.names ∷ length (qnames_in os) ∷ length o.qnames ∷ o.elements ∷ o.version ∷ []
+abbrev pub frame_of : Scope → List Scope → Frame
+frame_of o os =
+    record { base = length (names_in os); known = length o.names; qbase = length (qnames_in os); qknown = length o.qnames; elements = o.elements; version = o.version }
 
-abbrev pub frames_of : List Scope → List ℕ
+abbrev pub frames_of : List Scope → List Frame
 frames_of [] = []
-frames_of (o ∷ os) = frames_of os ++ frame_of o os
+frames_of (o ∷ os) = frames_of os ++ (frame_of o os ∷ [])
 
-pub length_frames : (os : List Scope) → length (frames_of os) ≡ 6 * length os
+-- the frames stand at the front of their array
+abbrev pub Framed : List Scope → List Frame → Type 0
+Framed os frames = take (length os) frames ≡ frames_of os
+
+pub length_frames : (os : List Scope) → length (frames_of os) ≡ length os
 length_frames [] = refl
-length_frames (o ∷ os) = let i : length (frames_of os) ≡ 6 * length os = length_frames os in simp length-append (omega arith)
+length_frames (o ∷ os) = let i : length (frames_of os) ≡ length os = length_frames os in simp length-append (omega arith)
 
-pub framed : (o : Scope) (os : List Scope) (frames : List ℕ) (v : View) → v.base ∷ v.known ∷ v.qbase ∷ v.qknown ∷ v.elements ∷ v.version ∷ [] ≡ frame_of o os
-    → 6 * length os + 6 ≤ length frames → Front (frames_of os) frames → Front (frames_of (o ∷ os)) (put6 frames (length os) v)
-framed o os frames v e h f =
-    let n = length_frames os in
-    let k : length (frames_of os) + 6 ≤ length frames = omega arith in
-    let q : put6 frames (length os) v ≡ sets frames (length (frames_of os)) (frame_of o os) =
-    run6 frames (length os) v
-    ∙ ap (λ (l : List ℕ). sets frames (6 * length os) l) e
-    ∙ ap (λ (m : ℕ). sets frames m (frame_of o os)) (sym n) in
-    subst (λ (l : List ℕ). Front (frames_of (o ∷ os)) l) (sym q) (front_sets (frame_of o os) (frames_of os) frames k f)
+pub framed : (o : Scope) (os : List Scope) (frames : List Frame) → length os < length frames → Framed os frames
+    → Framed (o ∷ os) (set frames (length os) (frame_of o os))
+framed o os frames h f = rw (take-suc-set, f)
 
--- number k of the innermost frame
-pub frame_at : (o : Scope) (os : List Scope) (frames : List ℕ) (k : ℕ) → k < 6 → Front (frames_of (o ∷ os)) frames
-    → get_or frames (6 * length os + k) 0 ≡ get_or (frame_of o os) k 0
-frame_at o os frames k h f =
+pub unframed : (o : Scope) (os : List Scope) (frames : List Frame) → Framed (o ∷ os) frames → Framed os frames
+unframed o os frames f =
     let n = length_frames os in
-    let l : length (frames_of os) + k < length (frames_of (o ∷ os)) = simp length-append (omega arith) in
-    rw (← n) (front_at (frames_of (o ∷ os)) frames (length (frames_of os) + k) l f ∙ get_or-append-add (frames_of os) (frame_of o os) k 0)
+    let h : length os ≤ suc (length os) = omega arith in
+    sym (take-take (length os) (suc (length os)) frames h)
+    ∙ ap (λ (x : List Frame). take (length os) x) f
+    ∙ ap (λ (k : ℕ). take k (frames_of (o ∷ os))) (sym n)
+    ∙ take-append_seam (frames_of os) (frame_of o os ∷ [])
+
+-- the innermost frame
+pub frame_at : (o : Scope) (os : List Scope) (frames : List Frame) (d : Frame) → Framed (o ∷ os) frames → get_or frames (length os) d ≡ frame_of o os
+frame_at o os frames d f =
+    let n = length_frames os in
+    let h : length os < suc (length os) = omega arith in
+    let e : length os ≡ length (frames_of os) + 0 = omega arith in
+    sym (get_or-take (suc (length os)) frames (length os) d h)
+    ∙ ap (λ (x : List Frame). get_or x (length os) d) f
+    ∙ ap (λ (k : ℕ). get_or (frames_of (o ∷ os)) k d) e
+    ∙ get_or-append-add (frames_of os) (frame_of o os ∷ []) 0 d

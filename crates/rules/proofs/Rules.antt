@@ -1,5 +1,5 @@
--- What each way out of a rule's function says of the definition; little-endian numbers of two and three bytes. Assumes nothing.
-use Prim.Native.Nat.{ℕ, suc, ◌+◌, ◌-◌, ◌*◌, ◌%◌, ◌≤◌, ◌<◌}
+-- Lengths that the rules give, and little-endian numbers of two and three bytes. Assumes nothing.
+use Prim.Native.Nat.{ℕ, suc, ◌+◌, ◌-◌, ◌*◌, ◌≤◌, ◌<◌}
 use mathlib.Core.Path.{◌≡◌, refl, ◌∙◌}
 use mathlib.Core.Bool.{Bool, true, false, ◌&&◌}
 use mathlib.Core.List.{List, [], ◌∷◌}
@@ -11,8 +11,7 @@ use lib.Seq.{drop-cons}
 use borrow.Author.Tests.{eqb-true}
 use Rattle.sequences.specs.Lists.{part, little}
 use Rattle.sequences.proofs.Tests.{tests, and_left, and_right}
-use Rattle.token.specs.declared.Shape.TheVariants.{Stamp, Date}
-use Rattle.rules.specs.Rules.{decimal_size, decimal_lawful, time_bytes, day_within, zone_lawful, time_lawful, zoned_lawful, lawful}
+use Rattle.rules.specs.Rules.{decimal_size, time_bytes, zone_lawful, time_lawful, zoned_lawful}
 
 -- ---- little-endian numbers
 
@@ -57,62 +56,6 @@ decimal_long n e = go (dec_lt n 7)
         absurd (let z : ◌≡◌ {A = ℕ} 0 1 = cc in let q : ⊥ = omega arith in q)
     go (no h) = omega arith
 
-module _ (p : List ℕ) where
-  pub decimal_sized : decimal_size (length p) ≡ false → false ≡ decimal_lawful p
-  unfolding decimal_lawful
-  decimal_sized s = simp s
-
-  module _ (s : decimal_size (length p) ≡ true) where
-    pub decimal_precision : 38 < get_or p 0 0 → false ≡ decimal_lawful p
-    unfolding decimal_lawful
-    decimal_precision h = simp (tests, s, h)
-
-    pub decimal_scale : get_or p 0 0 ≤ 38 → get_or p 0 0 < get_or p 1 0 → false ≡ decimal_lawful p
-    unfolding decimal_lawful
-    decimal_scale h k = simp (tests, s, h, k)
-
-    pub decimal_sign : get_or p 0 0 ≤ 38 → get_or p 1 0 ≤ get_or p 0 0 → leb (get_or p 2 0) 1 ≡ decimal_lawful p
-    unfolding decimal_lawful
-    decimal_sign h k = simp (tests, s, h, k)
-
--- ---- dates and zones
-
-module _ (p : List ℕ) (first last : ℕ) {day : ℕ} (e : day ≡ little p) where
-  pub day_early : day < first → false ≡ day_within first last p
-  unfolding day_within
-  day_early h = let k : little p < first = omega arith in simp (tests, k)
-
-  pub day_late : first ≤ day → leb day last ≡ day_within first last p
-  unfolding day_within
-  day_late h = let k : first ≤ little p = omega arith in simp (tests, k, e)
-
-module _ (p : List ℕ) {zone : ℕ} (e : zone ≡ little p) where
-  pub zone_east : zone ≤ 840 → true ≡ zone_lawful p
-  unfolding zone_lawful
-  zone_east h = let k : little p ≤ 840 = omega arith in simp (tests, k)
-
-  pub zone_west : 840 < zone → leb 64696 zone ≡ zone_lawful p
-  unfolding zone_lawful
-  zone_west h = let k : 840 < little p = omega arith in simp (tests, k, e)
-
--- ---- stamps and dates
-
-pub stamp_sized : (p : List ℕ) (low : ℕ) → (length p ≡ 8 → ⊥) → false ≡ lawful (Stamp low) p
-unfolding lawful
-stamp_sized p low h = simp (tests, h)
-
-pub stamp_low : (p : List ℕ) (low : ℕ) {b : ℕ} → length p ≡ 8 → b ≡ get_or p 0 0 → eqb (b % 4) low ≡ lawful (Stamp low) p
-unfolding lawful
-stamp_low p low h e = simp (tests, h, e)
-
-pub date_sized : (p : List ℕ) (first last : ℕ) → (length p ≡ 3 → ⊥) → false ≡ lawful (Date first last) p
-unfolding lawful
-date_sized p first last h = simp (tests, h)
-
-pub date_day : (p : List ℕ) (first last : ℕ) {t : Bool} → length p ≡ 3 → t ≡ day_within first last (part p 0 3) → t ≡ lawful (Date first last) p
-unfolding lawful
-date_day p first last h e = e ∙ simp (tests, h, whole_three p h)
-
 -- ---- times
 
 pub time_bytes_few : (precision : ℕ) → (3 ≤ time_bytes precision) × (time_bytes precision ≤ 5)
@@ -135,19 +78,6 @@ module _ (p : List ℕ) (more first last : ℕ) where
       go : (p : List ℕ) → length p ≡ 0 → false ≡ time_lawful more first last p
       go [] e = let n : 0 ≡ 1 + 3 + more → ⊥ = λ q. omega arith in simp (tests, n)
       go (x ∷ p) e = absurd (let q : ⊥ = omega arith in q)
-
-  pub time_precision : 7 < get_or p 0 0 → false ≡ time_lawful more first last p
-  unfolding time_lawful
-  time_precision h = simp (tests, h)
-
-  module _ (h : get_or p 0 0 ≤ 7) {size : ℕ} (e : size ≡ time_bytes (get_or p 0 0)) where
-    pub time_sized : (length p ≡ 1 + size + more → ⊥) → false ≡ time_lawful more first last p
-    unfolding time_lawful
-    time_sized n = let k : length p ≡ 1 + time_bytes (get_or p 0 0) + more → ⊥ = rw e at n in simp (tests, h, k)
-
-    pub time_day : length p ≡ 1 + size + more → {t : Bool} → t ≡ day_within first last (part p (1 + size) 3) → t ≡ time_lawful more first last p
-    unfolding time_lawful
-    time_day l g = let k : length p ≡ 1 + time_bytes (get_or p 0 0) + more = rw e at l in g ∙ simp (tests, h, k, e)
 
   pub time_long : time_lawful more first last p ≡ true → 4 + more ≤ length p
   unfolding time_lawful

@@ -2,13 +2,14 @@
 // Nothing is written here: a step says what reading has to do.
 #![tactic(auto)]
 
-ghost use Rattle.std.specs.Prelude.{◌≡◌, ◌<◌, length};
+ghost use Rattle.std.specs.Prelude.{◌≡◌, ◌<◌, length, Err};
 ghost use Rattle.token.specs.Entries.{Listed};
+ghost use Rattle.token.specs.Faults.{refusal};
 ghost use Rattle.scan.specs.Steps.{class_step, token_step, declared_step, end_step, step_at};
-ghost use Rattle.scan.specs.Bounds.{Fine};
+ghost use Rattle.scan.specs.Bounds.{FineIf};
 
-use modes::{Mode, View, both};
-use token::{Class, NameNumber, QnameNumber};
+use modes::{Mode, View};
+use token::{Class, Fault, NameNumber, QnameNumber, Refusal};
 
 mod tokens;
 
@@ -23,8 +24,8 @@ pub struct Room {
 // What a token does. An event's place is that of the token.
 #[derive(Clone, Copy)]
 pub enum Step {
-    Stop {
-        number: u32,
+    // the document's end, which is its length
+    End {
         place: usize,
     },
     // a row of names
@@ -88,26 +89,32 @@ pub enum Step {
     },
 }
 
-fn refuse_token(v: View) -> Step
-    ensures { result ≡ Step.Stop 5 v.at }
+fn refuse_token(v: View) -> Result<Step, Refusal>
+    ensures { result ≡ Err (refusal Fault.BadToken v.at) }
 {
-    Step::Stop {
-        number: token::BAD_TOKEN,
+    Err(Refusal {
+        fault: Fault::BadToken,
         place: v.at,
-    }
+    })
 }
 
 // What a token of a class does where it may stand.
-fn class_step(table: &[u16; 256], class: Class, doc: &[u8], v: View, room: Room, token: u8) -> Step
+#[tactic(auto, unfolding(crate::specs::Steps::class_step))]
+fn class_step(
+    table: &[u16; 256],
+    class: Class,
+    doc: &[u8],
+    v: View,
+    room: Room,
+    token: u8,
+) -> Result<Step, Refusal>
     requires { Listed table.now × (v.at < length doc.now) }
     ensures { result ≡ class_step class doc.now v room token }
 {
-    let mode = v.mode;
     match class {
-        Class::Unknown => refuse_token(v),
+        Class::Unknown | Class::Encoding => refuse_token(v),
         Class::Value | Class::LaterValue => tokens::value_step(table, doc, v, room, token),
         Class::XmlDecl => tokens::text_step(doc, v, room, token, Mode::AfterXmlDecl),
-        Class::Encoding => refuse_token(v),
         Class::DocType => tokens::text_step(doc, v, room, token, Mode::AfterDocType),
         Class::System => tokens::text_step(doc, v, room, token, Mode::AfterSystem),
         Class::Public => tokens::text_step(doc, v, room, token, Mode::AfterPublic),
@@ -115,21 +122,27 @@ fn class_step(table: &[u16; 256], class: Class, doc: &[u8], v: View, room: Room,
         Class::Element => tokens::element_step(doc, v, room),
         Class::EndElement => tokens::due(v, room, Step::Close { next: v.at + 1 }),
         Class::Attribute => tokens::attribute_step(doc, v, room),
-        Class::EndAttributes => tokens::bare_step(v, room, token),
+        Class::EndAttributes | Class::CdataEnd => tokens::bare_step(v, room, token),
         Class::Pi => tokens::pi_step(doc, v, room),
-        Class::Comment => tokens::text_step(doc, v, room, token, modes::after_misc(mode)),
+        Class::Comment => tokens::text_step(doc, v, room, token, modes::after_misc(v.mode)),
         Class::Cdata => tokens::text_step(doc, v, room, token, Mode::Cdata),
-        Class::CdataEnd => tokens::bare_step(v, room, token),
         Class::NameDef => tokens::name_step(doc, v, room),
         Class::QnameDef => tokens::qname_step(doc, v, room),
         Class::Nest => tokens::nest_step(doc, v, room),
         Class::EndNest => tokens::due(v, room, Step::Leave { next: v.at + 1 }),
         Class::Extension => tokens::extension_step(doc, v),
-        Class::Flush => Step::Flush { next: v.at + 1 },
+        Class::Flush => Ok(Step::Flush { next: v.at + 1 }),
     }
 }
 
-fn token_step(table: &[u16; 256], doc: &[u8], v: View, room: Room, token: u8) -> Step
+#[tactic(auto, using(sequences::proofs::Tests::tests), unfolding(crate::specs::Steps::token_step))]
+fn token_step(
+    table: &[u16; 256],
+    doc: &[u8],
+    v: View,
+    room: Room,
+    token: u8,
+) -> Result<Step, Refusal>
     requires { Listed table.now × (v.at < length doc.now) }
     ensures { result ≡ token_step doc.now v room token }
 {
@@ -142,29 +155,26 @@ fn token_step(table: &[u16; 256], doc: &[u8], v: View, room: Room, token: u8) ->
 }
 
 // The byte after the version's text or the encoding's text of an XML declaration.
-fn declared_step(doc: &[u8], v: View, room: Room, byte: u8) -> Step
+#[tactic(auto, using(sequences::proofs::Tests::tests), unfolding(crate::specs::Steps::declared_step))]
+fn declared_step(doc: &[u8], v: View, room: Room, byte: u8) -> Result<Step, Refusal>
     requires { v.at < length doc.now }
     ensures { result ≡ declared_step doc.now v room byte }
 {
-    let mode = v.mode;
-    if both(
-        modes::mode_number(mode) == modes::AFTER_XMLDECL,
-        byte == token::ENCODING_TOKEN,
-    ) {
+    if v.mode == Mode::AfterXmlDecl && byte == token::ENCODING_TOKEN {
         return tokens::text_step(doc, v, room, byte, Mode::AfterEncoding);
     }
     if 2 < byte {
-        return Step::Stop {
-            number: token::BAD_VALUE,
+        return Err(Refusal {
+            fault: Fault::BadValue,
             place: v.at,
-        };
+        });
     }
     tokens::due(
         v,
         room,
         Step::Event {
             token: 0,
-            a: byte as usize,
+            a: usize::from(byte),
             b: 0,
             mode: Mode::Prolog,
             next: v.at + 1,
@@ -172,38 +182,40 @@ fn declared_step(doc: &[u8], v: View, room: Room, byte: u8) -> Step
     )
 }
 
-fn end_step(size: usize, v: View) -> Step
+#[tactic(auto, using(sequences::proofs::Tests::tests), unfolding(crate::specs::Steps::end_step))]
+fn end_step(size: usize, v: View) -> Result<Step, Refusal>
     ensures { result ≡ end_step size v }
 {
-    let mode = v.mode;
-    if both(
-        both(v.depth == 0, v.elements == 0),
-        modes::mode_number(mode) <= modes::AFTER_PUBLIC,
-    ) {
-        Step::Stop {
-            number: token::ACCEPTED,
-            place: size,
-        }
+    if v.depth == 0 && v.elements == 0 && v.mode <= Mode::AfterPublic {
+        Ok(Step::End { place: size })
     } else {
-        Step::Stop {
-            number: token::MISSING,
+        Err(Refusal {
+            fault: Fault::Missing,
             place: size,
-        }
+        })
     }
 }
 
-// What stands at the view's place.
-pub fn step_at(table: &[u16; 256], doc: &[u8], v: View, room: Room) -> Step
+#[tactic(auto, using(sequences::proofs::Tests::tests), unfolding(crate::specs::Steps::step_at))]
+fn found(table: &[u16; 256], doc: &[u8], v: View, room: Room) -> Result<Step, Refusal>
     requires { Listed table.now }
-    ensures { (result ≡ step_at doc.now v room) × Fine (length doc.now) v room result }
+    ensures { result ≡ step_at doc.now v room }
 {
     let at = v.at;
     if doc.len() <= at {
         return end_step(doc.len(), v);
     }
-    let mode = v.mode;
-    if modes::AFTER_XMLDECL <= modes::mode_number(mode) {
+    if Mode::AfterXmlDecl <= v.mode {
         return declared_step(doc, v, room, doc[at]);
     }
     token_step(table, doc, v, room, doc[at])
+}
+
+// What stands at the view's place, or why it is refused.
+#[tactic(auto, using(crate::proofs::Fine::found_fine))]
+pub fn step_at(table: &[u16; 256], doc: &[u8], v: View, room: Room) -> Result<Step, Refusal>
+    requires { Listed table.now }
+    ensures { (result ≡ step_at doc.now v room) × FineIf (length doc.now) v room result }
+{
+    found(table, doc, v, room)
 }

@@ -14,7 +14,7 @@ const COUNT: usize = 2;
 
 const FILE: usize = 3;
 
-// The numbers of the jobs.
+// The numbers of the jobs, as the first argument has them: an enum would need the same match once more.
 const READ: usize = 1;
 
 const SHOW: usize = 2;
@@ -37,14 +37,12 @@ fn repeat_read(doc: &[u8], count: usize) -> u64 {
     let mut qnames = [0u32; cases::QNAMES];
     let mut events = [0u32; cases::EVENTS];
     let mut sum: u64 = 0;
-    let mut i = 0;
-    while i < count {
+    for _ in 0..count {
         let a: machine::Answer = reader::read(doc, &mut names, &mut qnames, &mut events);
-        sum = std::num::wrapping_add_u64(sum, a.events as u64);
-        sum = std::num::wrapping_add_u64(sum, slices::cell(&names, 0) as u64);
-        sum = std::num::wrapping_add_u64(sum, slices::cell(&qnames, 0) as u64);
-        sum = std::num::wrapping_add_u64(sum, slices::cell(&events, 0) as u64);
-        i += 1;
+        sum = sum.wrapping_add(a.events as u64);
+        sum = sum.wrapping_add(u64::from(names[0]));
+        sum = sum.wrapping_add(u64::from(qnames[0]));
+        sum = sum.wrapping_add(u64::from(events[0]));
     }
     sum
 }
@@ -56,8 +54,7 @@ fn repeat_rewrite(doc: &[u8], count: usize) -> u64 {
     let mut events = [0u32; cases::EVENTS];
     let mut out = [0u8; FORM];
     let mut sum: u64 = 0;
-    let mut i = 0;
-    while i < count {
+    for _ in 0..count {
         let a: rewriter_contract::Answer = rewriter::rewrite(
             doc,
             &mut names,
@@ -65,9 +62,8 @@ fn repeat_rewrite(doc: &[u8], count: usize) -> u64 {
             &mut events,
             &mut out,
         );
-        sum = std::num::wrapping_add_u64(sum, a.length as u64);
-        sum = std::num::wrapping_add_u64(sum, slices::wide64(out[0]));
-        i += 1;
+        sum = sum.wrapping_add(a.length as u64);
+        sum = sum.wrapping_add(u64::from(out[0]));
     }
     sum
 }
@@ -79,8 +75,7 @@ fn repeat_list(doc: &[u8], count: usize) -> u64 {
     let mut events = [0u32; cases::EVENTS];
     let mut pairs = [0u32; PAIRS];
     let mut sum: u64 = 0;
-    let mut i = 0;
-    while i < count {
+    for _ in 0..count {
         let a: lister_contract::Answer = lister::list(
             doc,
             &mut names,
@@ -88,9 +83,8 @@ fn repeat_list(doc: &[u8], count: usize) -> u64 {
             &mut events,
             &mut pairs,
         );
-        sum = std::num::wrapping_add_u64(sum, a.pairs as u64);
-        sum = std::num::wrapping_add_u64(sum, slices::cell(&pairs, 0) as u64);
-        i += 1;
+        sum = sum.wrapping_add(a.pairs as u64);
+        sum = sum.wrapping_add(u64::from(pairs[0]));
     }
     sum
 }
@@ -98,10 +92,8 @@ fn repeat_list(doc: &[u8], count: usize) -> u64 {
 // The bytes of the text, 0 where there is none.
 fn size_of(shown: Shown) -> u64 {
     match shown {
-        Shown::Own(n) => n as u64,
-        Shown::Made(n) => n as u64,
-        Shown::Short(_) => 0,
-        Shown::NoText => 0,
+        Shown::Own(n) | Shown::Made(n) => n as u64,
+        Shown::Short(_) | Shown::NoText => 0,
     }
 }
 
@@ -109,29 +101,26 @@ fn size_of(shown: Shown) -> u64 {
 fn repeat_show(token: u8, payload: &[u8], count: usize) -> u64 {
     let mut buffer = [0u8; TEXT];
     let mut sum: u64 = 0;
-    let mut i = 0;
-    while i < count {
+    for _ in 0..count {
         let shown = text::show(token, payload, &mut buffer);
-        sum = std::num::wrapping_add_u64(sum, size_of(shown));
+        sum = sum.wrapping_add(size_of(shown));
         let at = sum as usize % TEXT;
-        sum = std::num::wrapping_add_u64(sum, slices::wide64(buffer[at]));
-        i += 1;
+        sum = sum.wrapping_add(u64::from(buffer[at]));
     }
     sum
 }
 
 // A value is a token byte and then its payload.
 fn repeat_value(value: &[u8], count: usize) -> u64 {
-    if value.len() == 0 {
+    let Some((token, payload)) = value.split_first() else {
         return 0;
-    }
-    repeat_show(value[0], &value[1..], count)
+    };
+    repeat_show(*token, payload, count)
 }
 
 // Writes the sum in one line.
 fn write_sum(rt: &impl Print, sum: u64) -> io::Result<()> {
-    rt.print(sum)?;
-    rt.write_all(b"\n")
+    println!(rt; "{sum}")
 }
 
 // Reads the file so many times.

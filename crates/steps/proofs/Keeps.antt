@@ -5,7 +5,6 @@ use mathlib.Core.List.{List, [], ◌∷◌, ◌++◌, append-nil}
 use native.Mathlib.Nat.{add-zero}
 use native.Mathlib.Numerals.{add-one}
 use native.Mathlib.Omega.{arith}
-use lib.Dec.{lit<}
 use lib.ListN.{length, get_or, length-append, length-set, length-drop, drop}
 use Rattle.sequences.specs.Lists.{overlay}
 use Rattle.sequences.specs.Arrays.{Front}
@@ -21,10 +20,11 @@ use Rattle.machine.specs.Machine.{event, flat_names, flat_qnames, flat_events, S
 use Rattle.token.specs.declared.NameNumber.{NameNumber}
 use Rattle.token.specs.declared.QnameNumber.{QnameNumber}
 use Rattle.token.specs.Tokens.{qname_width, event_width}
-use Rattle.rows.specs.Tables.{Tables, put2, put4, tables_after, Turned, Held}
+use Rattle.rows.specs.declared.Stacks.{Stacks}
+use Rattle.rows.specs.Tables.{Tables, put2, put4, no_frame, tables_after, Turned, Held}
 use Rattle.rows.proofs.Puts.{names_put, qnames_put, events_put}
 use Rattle.machine.proofs.Rows.{length_names, length_qnames, length_events}
-use Rattle.rows.proofs.Scopes.{pushed, dropped, row_same, frame_of, frames_of, framed, frame_at}
+use Rattle.rows.proofs.Scopes.{pushed, dropped, row_same, Framed, frame_of, framed, unframed, frame_at}
 use Rattle.machine.proofs.Goes.{Goes}
 
 -- the tables hold the rows completed, and the stacks the rows of the open documents
@@ -32,21 +32,21 @@ pub record Stored (n₀ q₀ e₀ : List ℕ) (s : State) (t : Tables) : Type 0 
   pub names_are : t.names ≡ overlay (flat_names s.names) n₀
   pub qnames_are : t.qnames ≡ overlay (flat_qnames s.qnames) q₀
   pub events_are : t.events ≡ overlay (flat_events s.events) e₀
-  pub stack_is : Front (names_in s.outer ++ s.here.names) t.stack
-  pub qstack_is : Front (qnames_in s.outer ++ s.here.qnames) t.qstack
-  pub frames_are : Front (frames_of s.outer) t.frames
+  pub stack_is : Front (names_in s.outer ++ s.here.names) t.stacks.names
+  pub qstack_is : Front (qnames_in s.outer ++ s.here.qnames) t.stacks.qnames
+  pub frames_are : Framed s.outer t.stacks.frames
 
 -- a step changes no table's length
 pub record SameLengths (t t' : Tables) : Type 0 where
   pub names : length t'.names ≡ length t.names
   pub qnames : length t'.qnames ≡ length t.qnames
   pub events : length t'.events ≡ length t.events
-  pub stack : length t'.stack ≡ length t.stack
-  pub qstack : length t'.qstack ≡ length t.qstack
-  pub frames : length t'.frames ≡ length t.frames
+  pub stack : length t'.stacks.names ≡ length t.stacks.names
+  pub qstack : length t'.stacks.qnames ≡ length t.stacks.qnames
+  pub frames : length t'.stacks.frames ≡ length t.stacks.frames
 
 lengths_after : (t : Tables) (v : View) (s : Step) → SameLengths t (tables_after t v s)
-lengths_after t v (step.Stop number place) = record { names = refl; qnames = refl; events = refl; stack = refl; qstack = refl; frames = refl }
+lengths_after t v (step.End place) = record { names = refl; qnames = refl; events = refl; stack = refl; qstack = refl; frames = refl }
 lengths_after t v (step.Name place units next) =
     record { names = simp length-set; qnames = refl; events = refl; stack = simp length-set; qstack = refl; frames = refl }
 lengths_after t v (step.Qname uri prefix local next) =
@@ -70,9 +70,9 @@ same_lengths {t} {t'} {v} {s} w =
       names = ap length w.names_are ∙ l.names;
       qnames = ap length w.qnames_are ∙ l.qnames;
       events = ap length w.events_are ∙ l.events;
-      stack = ap length w.stack_is ∙ l.stack;
-      qstack = ap length w.qstack_is ∙ l.qstack;
-      frames = ap length w.frames_are ∙ l.frames;
+      stack = ap (λ (x : Stacks). length x.names) w.stacks_are ∙ l.stack;
+      qstack = ap (λ (x : Stacks). length x.qnames) w.stacks_are ∙ l.qstack;
+      frames = ap (λ (x : Stacks). length x.frames) w.stacks_are ∙ l.frames;
     }
 
 -- what is longer than what was laid over a table lies inside the table
@@ -118,16 +118,16 @@ module _ {n₀ q₀ e₀ : List ℕ} {s : State} {t : Tables} {size : ℕ} {room
   -- a step that adds an event and leaves the open documents' names as they are
   with_event : {t' : Tables} (token a b : ℕ) (mode : Mode) (elements next : ℕ) → length s.events < room.events
       → t'.names ≡ t.names → t'.qnames ≡ t.qnames → t'.events ≡ put4 t.events (length s.events) token s.at a b
-      → t'.stack ≡ t.stack → t'.qstack ≡ t.qstack → t'.frames ≡ t.frames
+      → t'.stacks ≡ t.stacks
       → Stored n₀ q₀ e₀ (onward s (event token s.at a b) mode (scope s.here.version s.here.names s.here.qnames elements) next) t'
-  with_event token a b mode elements next f en eq ee es et ef =
+  with_event token a b mode elements next f en eq ee es =
       record {
         names_are = en ∙ i.names_are;
         qnames_are = eq ∙ i.qnames_are;
         events_are = ee ∙ event_stored token a b f;
         stack_is = rw es i.stack_is;
-        qstack_is = rw et i.qstack_is;
-        frames_are = rw ef i.frames_are;
+        qstack_is = rw es i.qstack_is;
+        frames_are = rw es i.frames_are;
       }
 
   module _ {t' : Tables} {r : View} where
@@ -136,16 +136,16 @@ module _ {n₀ q₀ e₀ : List ℕ} {s : State} {t : Tables} {size : ℕ} {room
     keep_name place units next f w =
         let l = same_lengths w in
         let b = length-append (names_in s.outer) s.here.names in
-        let top : length (names_in s.outer) + length s.here.names < length t.stack = omega arith in
+        let top : length (names_in s.outer) + length s.here.names < length t.stacks.names = omega arith in
         record {
           stored =
               record {
                 names_are = w.names_are ∙ ap (λ (x : List ℕ). put2 x (length s.names) place units) i.names_are ∙ names_put s.names n₀ place units (names_fit f.3);
                 qnames_are = w.qnames_are ∙ i.qnames_are;
                 events_are = w.events_are ∙ i.events_are;
-                stack_is = rw w.stack_is (pushed (names_in s.outer) s.here.names t.stack (length s.names + 1) top i.stack_is);
-                qstack_is = rw w.qstack_is i.qstack_is;
-                frames_are = rw w.frames_are i.frames_are;
+                stack_is = rw w.stacks_are (pushed (names_in s.outer) s.here.names t.stacks.names (length s.names + 1) top i.stack_is);
+                qstack_is = rw w.stacks_are i.qstack_is;
+                frames_are = rw w.stacks_are i.frames_are;
               };
           held = simp length-append (omega arith);
           seen = w.view_is ∙ simp length-append;
@@ -156,19 +156,19 @@ module _ {n₀ q₀ e₀ : List ℕ} {s : State} {t : Tables} {size : ℕ} {room
     keep_qname uri prefix local next f w =
         let l = same_lengths w in
         let b = length-append (qnames_in s.outer) s.here.qnames in
-        let top : length (qnames_in s.outer) + length s.here.qnames < length t.qstack = omega arith in
-        let u = row_same (names_in s.outer) s.here.names t.stack uri.0 f.2 i.stack_is in
-        let p = row_same (names_in s.outer) s.here.names t.stack prefix.0 f.3 i.stack_is in
-        let o = row_same (names_in s.outer) s.here.names t.stack local.0 f.4 i.stack_is in
+        let top : length (qnames_in s.outer) + length s.here.qnames < length t.stacks.qnames = omega arith in
+        let u = row_same (names_in s.outer) s.here.names t.stacks.names uri.0 f.2 i.stack_is in
+        let p = row_same (names_in s.outer) s.here.names t.stacks.names prefix.0 f.3 i.stack_is in
+        let o = row_same (names_in s.outer) s.here.names t.stacks.names local.0 f.4 i.stack_is in
         record {
           stored =
               record {
                 names_are = w.names_are ∙ i.names_are;
                 qnames_are = w.qnames_are ∙ rw (i.qnames_are, u, p, o) (qnames_put s.qnames q₀ _ _ _ (qnames_fit f.5));
                 events_are = w.events_are ∙ i.events_are;
-                stack_is = rw w.stack_is i.stack_is;
-                qstack_is = rw w.qstack_is (pushed (qnames_in s.outer) s.here.qnames t.qstack (length s.qnames + 1) top i.qstack_is);
-                frames_are = rw w.frames_are i.frames_are;
+                stack_is = rw w.stacks_are i.stack_is;
+                qstack_is = rw w.stacks_are (pushed (qnames_in s.outer) s.here.qnames t.stacks.qnames (length s.qnames + 1) top i.qstack_is);
+                frames_are = rw w.stacks_are i.frames_are;
               };
           held = simp length-append (omega arith);
           seen = w.view_is ∙ simp length-append;
@@ -184,9 +184,9 @@ module _ {n₀ q₀ e₀ : List ℕ} {s : State} {t : Tables} {size : ℕ} {room
                 names_are = w.names_are ∙ i.names_are;
                 qnames_are = w.qnames_are ∙ i.qnames_are;
                 events_are = w.events_are ∙ i.events_are;
-                stack_is = rw w.stack_is i.stack_is;
-                qstack_is = rw w.qstack_is i.qstack_is;
-                frames_are = rw w.frames_are i.frames_are;
+                stack_is = rw w.stacks_are i.stack_is;
+                qstack_is = rw w.stacks_are i.qstack_is;
+                frames_are = rw w.stacks_are i.frames_are;
               };
           held = omega arith;
           seen = w.view_is;
@@ -202,9 +202,9 @@ module _ {n₀ q₀ e₀ : List ℕ} {s : State} {t : Tables} {size : ℕ} {room
                 names_are = w.names_are ∙ i.names_are;
                 qnames_are = w.qnames_are ∙ i.qnames_are;
                 events_are = w.events_are ∙ i.events_are;
-                stack_is = rw (w.stack_is, append-nil) (dropped (names_in s.outer) s.here.names t.stack i.stack_is);
-                qstack_is = rw (w.qstack_is, append-nil) (dropped (qnames_in s.outer) s.here.qnames t.qstack i.qstack_is);
-                frames_are = rw w.frames_are i.frames_are;
+                stack_is = rw (w.stacks_are, append-nil) (dropped (names_in s.outer) s.here.names t.stacks.names i.stack_is);
+                qstack_is = rw (w.stacks_are, append-nil) (dropped (qnames_in s.outer) s.here.qnames t.stacks.qnames i.qstack_is);
+                frames_are = rw w.stacks_are i.frames_are;
               };
           held = omega arith;
           seen = w.view_is;
@@ -216,7 +216,7 @@ module _ {n₀ q₀ e₀ : List ℕ} {s : State} {t : Tables} {size : ℕ} {room
         let l = same_lengths w in
         record {
           stored =
-              with_event token a b mode s.here.elements next f.4 w.names_are w.qnames_are w.events_are w.stack_is w.qstack_is w.frames_are;
+              with_event token a b mode s.here.elements next f.4 w.names_are w.qnames_are w.events_are w.stacks_are;
           held = simp length-append (omega arith);
           seen = w.view_is ∙ simp length-append;
         }
@@ -225,11 +225,11 @@ module _ {n₀ q₀ e₀ : List ℕ} {s : State} {t : Tables} {size : ℕ} {room
         → Turned t t' (view s) (step.Refer token number mode next) r → Kept n₀ q₀ e₀ size room (apply s (step.Refer token number mode next)) t' r
     keep_refer token number mode next f w =
         let l = same_lengths w in
-        let e = row_same (qnames_in s.outer) s.here.qnames t.qstack number.0 f.3 i.qstack_is in
+        let e = row_same (qnames_in s.outer) s.here.qnames t.stacks.qnames number.0 f.3 i.qstack_is in
         record {
           stored =
               with_event token (row_of s.here.qnames number.0) 0 mode s.here.elements next f.4 w.names_are w.qnames_are
-              (w.events_are ∙ rw e) w.stack_is w.qstack_is w.frames_are;
+              (w.events_are ∙ rw e) w.stacks_are;
           held = simp length-append (omega arith);
           seen = w.view_is ∙ simp length-append;
         }
@@ -238,12 +238,12 @@ module _ {n₀ q₀ e₀ : List ℕ} {s : State} {t : Tables} {size : ℕ} {room
         → Kept n₀ q₀ e₀ size room (apply s (step.Open number next)) t' r
     keep_open number next f w =
         let l = same_lengths w in
-        let e = row_same (qnames_in s.outer) s.here.qnames t.qstack number.0 f.3 i.qstack_is in
+        let e = row_same (qnames_in s.outer) s.here.qnames t.stacks.qnames number.0 f.3 i.qstack_is in
         let o : elements_in s.outer + s.here.elements + 1 ≡ elements_in s.outer + (s.here.elements + 1) = omega arith in
         record {
           stored =
               with_event 0xF8 (row_of s.here.qnames number.0) 0 Tag (s.here.elements + 1) next f.5 w.names_are w.qnames_are
-              (w.events_are ∙ rw e) w.stack_is w.qstack_is w.frames_are;
+              (w.events_are ∙ rw e) w.stacks_are;
           held = simp length-append (omega arith);
           seen = w.view_is ∙ simp (length-append, o);
         }
@@ -252,11 +252,11 @@ module _ {n₀ q₀ e₀ : List ℕ} {s : State} {t : Tables} {size : ℕ} {room
         → Turned t t' (view s) (step.Pi target start next) r → Kept n₀ q₀ e₀ size room (apply s (step.Pi target start next)) t' r
     keep_pi target start next f w =
         let l = same_lengths w in
-        let e = row_same (names_in s.outer) s.here.names t.stack target.0 f.2 i.stack_is in
+        let e = row_same (names_in s.outer) s.here.names t.stacks.names target.0 f.2 i.stack_is in
         record {
           stored =
               with_event 0xF4 (row_of s.here.names target.0) start (after_misc s.mode) s.here.elements next f.4 w.names_are
-              w.qnames_are (w.events_are ∙ rw e) w.stack_is w.qstack_is w.frames_are;
+              w.qnames_are (w.events_are ∙ rw e) w.stacks_are;
           held = simp length-append (omega arith);
           seen = w.view_is ∙ simp length-append;
         }
@@ -268,8 +268,7 @@ module _ {n₀ q₀ e₀ : List ℕ} {s : State} {t : Tables} {size : ℕ} {room
         let o : elements_in s.outer + s.here.elements - 1 ≡ elements_in s.outer + (s.here.elements - 1) = omega arith in
         record {
           stored =
-              with_event 0xF7 0 0 Content (s.here.elements - 1) next f.3 w.names_are w.qnames_are w.events_are w.stack_is
-              w.qstack_is w.frames_are;
+              with_event 0xF7 0 0 Content (s.here.elements - 1) next f.3 w.names_are w.qnames_are w.events_are w.stacks_are;
           held = simp length-append (omega arith);
           seen = w.view_is ∙ simp (length-append, o);
         }
@@ -278,16 +277,16 @@ module _ {n₀ q₀ e₀ : List ℕ} {s : State} {t : Tables} {size : ℕ} {room
         → Kept n₀ q₀ e₀ size room (apply s (step.Nest version next)) t' r
     keep_nest version next f w =
         let l = same_lengths w in
-        let k : 6 * length s.outer + 6 ≤ length t.frames = omega arith in
+        let k : length s.outer < length t.stacks.frames = omega arith in
         record {
           stored =
               record {
                 names_are = w.names_are ∙ i.names_are;
                 qnames_are = w.qnames_are ∙ i.qnames_are;
                 events_are = w.events_are ∙ event_stored 0xEC version 0 f.5;
-                stack_is = rw (w.stack_is, append-nil) i.stack_is;
-                qstack_is = rw (w.qstack_is, append-nil) i.qstack_is;
-                frames_are = rw w.frames_are (framed s.here s.outer t.frames (view s) refl k i.frames_are);
+                stack_is = rw (w.stacks_are, append-nil) i.stack_is;
+                qstack_is = rw (w.stacks_are, append-nil) i.qstack_is;
+                frames_are = rw w.stacks_are (framed s.here s.outer t.stacks.frames k i.frames_are);
               };
           held = simp length-append (omega arith);
           seen = w.view_is ∙ simp (length-append, add-zero, add-one);
@@ -305,25 +304,20 @@ module _ {n₀ q₀ e₀ : List ℕ} {s : State} {t : Tables} {size : ℕ} {room
           let ld : length s.outer ≡ suc (length os) = ap length e in
           let d : length s.outer - 1 ≡ length os = omega arith in
           let eo : elements_in s.outer + s.here.elements ≡ elements_in os + o.elements = omega arith in
-          let fr : Front (frames_of (o ∷ os)) t.frames = rw e at i.frames_are in
-          let f0 : get_or t.frames (6 * length os) 0 ≡ length (names_in os) = rw add-zero at (frame_at o os t.frames 0 (lit< tt) fr) in
-          let f1 : get_or t.frames (6 * length os + 1) 0 ≡ length o.names = frame_at o os t.frames 1 (lit< tt) fr in
-          let f2 : get_or t.frames (6 * length os + 2) 0 ≡ length (qnames_in os) = frame_at o os t.frames 2 (lit< tt) fr in
-          let f3 : get_or t.frames (6 * length os + 3) 0 ≡ length o.qnames = frame_at o os t.frames 3 (lit< tt) fr in
-          let f4 : get_or t.frames (6 * length os + 4) 0 ≡ o.elements = frame_at o os t.frames 4 (lit< tt) fr in
-          let f5 : get_or t.frames (6 * length os + 5) 0 ≡ o.version = frame_at o os t.frames 5 (lit< tt) fr in
+          let fr : Framed (o ∷ os) t.stacks.frames = rw e at i.frames_are in
+          let p : get_or t.stacks.frames (length os) no_frame ≡ frame_of o os = frame_at o os t.stacks.frames no_frame fr in
           record {
             stored =
                 record {
                   names_are = w.names_are ∙ i.names_are;
                   qnames_are = w.qnames_are ∙ i.qnames_are;
                   events_are = w.events_are ∙ event_stored 0xEB 0 0 f.4;
-                  stack_is = rw w.stack_is (rw e at (dropped (names_in s.outer) s.here.names t.stack i.stack_is));
-                  qstack_is = rw w.qstack_is (rw e at (dropped (qnames_in s.outer) s.here.qnames t.qstack i.qstack_is));
-                  frames_are = rw w.frames_are (dropped (frames_of os) (frame_of o os) t.frames fr);
+                  stack_is = rw w.stacks_are (rw e at (dropped (names_in s.outer) s.here.names t.stacks.names i.stack_is));
+                  qstack_is = rw w.stacks_are (rw e at (dropped (qnames_in s.outer) s.here.qnames t.stacks.qnames i.qstack_is));
+                  frames_are = rw w.stacks_are (unframed o os t.stacks.frames fr);
                 };
             held = simp length-append (omega arith);
-            seen = w.view_is ∙ simp (length-append, d, f0, f1, f2, f3, f4, f5, eo);
+            seen = w.view_is ∙ simp (length-append, d, p, eo);
           }
 
     keep_leave : (next : ℕ) → Fine size (view s) room (step.Leave next) → Turned t t' (view s) (step.Leave next) r
@@ -337,7 +331,7 @@ module _ {n₀ q₀ e₀ : List ℕ} {s : State} {t : Tables} {size : ℕ} {room
 
     -- every step but the one that stops
     pub keep : (x : Step) → Goes x → Fine size (view s) room x → Turned t t' (view s) x r → Kept n₀ q₀ e₀ size room (apply s x) t' r
-    keep (step.Stop number place) g f w = absurd g
+    keep (step.End place) g f w = absurd g
     keep (step.Name place units next) g f w = keep_name place units next f w
     keep (step.Qname uri prefix local next) g f w = keep_qname uri prefix local next f w
     keep (step.Skip next) g f w = keep_skip next f w

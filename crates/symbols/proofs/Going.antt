@@ -1,10 +1,11 @@
 -- A list that is stored number by number: what is stored, what is still to come, and its hash. Assumes nothing.
-use Prim.Native.Nat.{ℕ, ◌+◌}
+use Prim.Native.Nat.{ℕ, ◌+◌, ◌≤◌, ◌<◌}
 use mathlib.Core.Path.{◌≡◌, refl, sym, ap, subst, ◌∙◌}
-use mathlib.Core.List.{List, [], ◌∷◌, ◌++◌, append_assoc, append-nil}
+use mathlib.Core.List.{List, [], ◌∷◌, ◌++◌}
 use native.Mathlib.Omega.{arith}
-use lib.ListN.{length, set, length-append}
-use lib.Seq.{sets, length-sets}
+use native.Mathlib.Numerals.{add-one}
+use lib.ListN.{length, get_or, take, set, length-append}
+use lib.Seq.{length-sets, take-suc, take_all}
 use Rattle.sequences.proofs.Overlay.{sets_append}
 use Rattle.hash.specs.Hash.{mix_of, hash_from}
 use Rattle.hash.proofs.Hashes.{hash_append}
@@ -50,36 +51,14 @@ pub hashed_one : (l : List ℕ) (a : Cursor) (x h : ℕ) → h ≡ mix_of a.hash
 unfolding hash_from
 hashed_one l a x h e = record { put = put_set l a.at x; hash_is = e }
 
--- ---- a loop that stores
+-- ---- a loop that stores the first k numbers of a list
 
--- of `whole`, stored over l₀ from a on, `rest` is still to come
-pub record Going (l₀ : List ℕ) (a : Cursor) (whole l : List ℕ) (to h : ℕ) (rest : List ℕ) : Type 0 where
-  pub xs : List ℕ
-  pub split : xs ++ rest ≡ whole
-  pub stored : l ≡ sets l₀ a.at xs
-  pub to_is : to ≡ a.at + length xs
-  pub hash_is : hash_from h rest ≡ hash_from a.hash whole
+pub stored_next : {l₀ l l' : List ℕ} (xs : List ℕ) {a b c : Cursor} {n k x : ℕ} → PutHashed l₀ a (take k xs) l b → n ≡ length xs → k < n → x ≡ get_or xs k 0
+    → PutHashed l b (x ∷ []) l' c → PutHashed l₀ a (take (k + 1) xs) l' c
+stored_next xs {n = n} {k = k} {x = x} p e h f q =
+    let i : k < length xs = omega (arith, e, h) in
+    let t : take k xs ++ (x ∷ []) ≡ take (k + 1) xs = rw (f, add-one) (sym (take-suc xs k 0 i)) in
+    hashed_as t (hashed_then p q)
 
-pub go_first : (l : List ℕ) (a : Cursor) (whole : List ℕ) → Going l a whole l a.at a.hash whole
-go_first l a whole = record { xs = []; split = refl; stored = refl; to_is = omega arith; hash_is = refl }
-
-module _ {l₀ : List ℕ} {a : Cursor} {whole l : List ℕ} {to h : ℕ} {rest : List ℕ} (g : Going l₀ a whole l to h rest) where
-  pub go_step : (v h' : ℕ) (more : List ℕ) → rest ≡ v ∷ more → h' ≡ mix_of h v → Going l₀ a whole (set l to v) (to + 1) h' more
-  unfolding hash_from
-  go_step v h' more e eh =
-      record {
-        xs = g.xs ++ (v ∷ []);
-        split = append_assoc g.xs (v ∷ []) more ∙ ap (λ (x : List ℕ). g.xs ++ x) (sym e) ∙ g.split;
-        stored = sym (sym (sets_append g.xs (v ∷ []) l₀ a.at) ∙ rw (← g.to_is, ← g.stored));
-        to_is = simp length-append (omega (arith, g.to_is));
-        hash_is = ap (λ (x : ℕ). hash_from x more) eh ∙ rw e at g.hash_is;
-      }
-
-  pub go_end : rest ≡ [] → PutHashed l₀ a whole l (record { at = to; hash = h })
-  unfolding hash_from
-  go_end e =
-      let f : g.xs ≡ whole = sym (append-nil g.xs) ∙ ap (λ (x : List ℕ). g.xs ++ x) (sym e) ∙ g.split in
-      record { put = record { stored = rw f at g.stored; to_is = rw f at g.to_is }; hash_is = rw e at g.hash_is }
-
-pub go_to : {l₀ : List ℕ} {a : Cursor} {whole l : List ℕ} {to to' h : ℕ} {rest : List ℕ} → to ≡ to' → Going l₀ a whole l to h rest → Going l₀ a whole l to' h rest
-go_to {l₀} {a} {whole} {l} {h = h} {rest = rest} e g = subst (λ (x : ℕ). Going l₀ a whole l x h rest) e g
+pub stored_whole : {l₀ l : List ℕ} (xs : List ℕ) {a b : Cursor} {n k : ℕ} → PutHashed l₀ a (take k xs) l b → n ≡ length xs → n ≤ k → PutHashed l₀ a xs l b
+stored_whole xs {n = n} {k = k} p e h = hashed_as (take_all k xs (omega (arith, e, h))) p

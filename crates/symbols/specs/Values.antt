@@ -1,4 +1,4 @@
--- Serves the code. The numbers of a value, and the way they are made.
+-- Serves the code. The numbers of a value, and how its text is made.
 use Rattle.std.specs.Prelude.{ℕ, List, ◌∷◌, map}
 use Rattle.std.proofs.Math.Option.{Option, none, some}
 use Rattle.plan.specs.declared.Plan.{Plan}
@@ -12,11 +12,20 @@ abbrev pub value_codes : ℕ → List ℕ → Option (List ℕ) → List ℕ
 value_codes token payload none = mark token_kind token ∷ map (mark byte_kind) payload
 value_codes token payload (some units) = units
 
--- no text, the payload itself, a text that is made in a small buffer, or one that is made of a blob
-abbrev pub way_of : Plan → ℕ
-way_of Nothing = 0
-way_of Payload = 1
-way_of (Number minus size scale) = 2
-way_of (Boolean b) = 2
-way_of HexDigits = 3
-way_of Base64Letters = 3
+-- a text that is made in a small buffer
+abbrev pub MadeSmall : Plan → Type 0
+MadeSmall Nothing = ⊥
+MadeSmall Payload = ⊥
+MadeSmall (Number minus size scale) = Unit
+MadeSmall (Boolean b) = Unit
+MadeSmall HexDigits = ⊥
+MadeSmall Base64Letters = ⊥
+
+-- a text that is made of a blob
+abbrev pub MadeOfBlob : Plan → Type 0
+MadeOfBlob Nothing = ⊥
+MadeOfBlob Payload = ⊥
+MadeOfBlob (Number minus size scale) = ⊥
+MadeOfBlob (Boolean b) = ⊥
+MadeOfBlob HexDigits = Unit
+MadeOfBlob Base64Letters = Unit

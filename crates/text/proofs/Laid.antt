@@ -1,5 +1,5 @@
 -- A text laid into a lent buffer, or refused for its room; and each way out of `show`. Assumes nothing.
-use Prim.Native.Nat.{ℕ, ◌+◌, ◌-◌, ◌*◌, ◌/◌, ◌≤◌, ◌<◌}
+use Prim.Native.Nat.{ℕ, ◌+◌, ◌*◌, ◌/◌, ◌≤◌, ◌<◌}
 use mathlib.Core.Path.{◌≡◌, refl, sym, ◌∙◌, ap, subst}
 use mathlib.Core.Bool.{Bool, true, false, cond}
 use mathlib.Core.Option.{Option, none, some}
@@ -15,7 +15,6 @@ use Rattle.sequences.proofs.Units.{length_bytes_of}
 use Rattle.token.specs.Tokens.{accepted, no_room}
 use Rattle.numeral.specs.Numeral.{numeral, truth}
 use Rattle.chunks.specs.Chunks.{chunks_value}
-use Rattle.numeral.specs.Puts.{Ends}
 use Rattle.chunks.specs.declared.Chunks.{Chunks}
 use Rattle.hexadecimal.specs.Hexadecimal.{hex}
 use Rattle.base64_text.specs.Base64.{base64}
@@ -55,9 +54,9 @@ lays_length {units} {before} l =
 
 -- ---- the length of each text
 
--- that of a number, which ends 82 bytes
-pub need_small : {small units : List ℕ} {at : ℕ} → Ends small units at → 82 - 2 * at ≡ 2 * length units
-need_small e = let p = e.place in omega arith
+-- that of the text of the small buffer
+pub need_small : {text small : List ℕ} (units : List ℕ) → text ≡ small → small ≡ bytes_of units → length text ≡ 2 * length units
+need_small units e f = ap length (e ∙ f) ∙ length_bytes_of units
 
 pub need_hex : (p : List ℕ) → 4 * length p ≡ 2 * length (hex p)
 need_hex p = let e = length_hex p in omega arith

@@ -4,7 +4,6 @@
 
 ghost use Rattle.std.specs.Prelude.{◌≡◌, ◌+◌, ◌*◌, ◌^◌, ◌≤◌, ◌<◌, length, take};
 ghost use Rattle.numeral.specs.Numeral.{numeral, truth};
-ghost use Rattle.numeral.specs.Puts.{small_units, small_bytes};
 ghost use Rattle.chunks.specs.Chunks.{chunks_value, Chunked};
 ghost use Rattle.hexadecimal.specs.Hexadecimal.{hex};
 ghost use Rattle.base64_text.specs.Base64.{base64};
@@ -14,9 +13,11 @@ ghost use Rattle.text.specs.Lays.{Lays, LaysEnd};
 ghost use Rattle.token.specs.Tokens.{longest};
 
 use chunks::Chunks;
+use numeral::Small;
 use plan::Plan;
 
-// What showing a value answers, with the length of the text in bytes.
+// What showing a value answers, with the length of the text in bytes. Not a Result: `Shows` promises a number and a count of each
+// case, and `part` answers for all four.
 #[derive(Clone, Copy)]
 pub enum Shown {
     // the payload is the text
@@ -31,16 +32,15 @@ pub enum Shown {
 
 // ---- a text into a lent buffer
 
-// Lays the text that ends small, from unit `at` on, into the buffer, if it has the room.
-fn show_small(small: &[u8; numeral::SMALL_BYTES], at: usize, buffer: &mut [u8]) -> Shown
-    requires { (at ≤ small_units) × (length small.now ≡ small_bytes) }
-    ensures { LaysEnd small.now at buffer.old buffer.new result }
+// Lays the text of small into the buffer, if it has the room.
+fn show_small(small: &Small, buffer: &mut [u8]) -> Shown
+    ensures { LaysEnd small.now buffer.old buffer.new result }
 {
-    let need = numeral::SMALL_BYTES - 2 * at;
+    let need = small.text().len();
     if buffer.len() < need {
         return Shown::Short(need);
     }
-    numeral::copy_from(small, 2 * at, buffer);
+    small.copy_to(buffer);
     Shown::Made(need)
 }
 
@@ -49,18 +49,18 @@ fn show_number(minus: bool, size: Chunks, scale: usize, buffer: &mut [u8]) -> Sh
     requires { Chunked size × (scale ≤ 38) × (chunks_value size < 10 ^ 39) }
     ensures { Lays (numeral minus (chunks_value size) scale) buffer.old buffer.new result }
 {
-    let mut small = [0u8; numeral::SMALL_BYTES];
-    let at = numeral::render(minus, size, scale, &mut small);
-    show_small(&small, at, buffer)
+    let mut small = Small::new();
+    numeral::render(minus, size, scale, &mut small);
+    show_small(&small, buffer)
 }
 
 // Shows a truth value.
 fn show_truth(yes: bool, buffer: &mut [u8]) -> Shown
     ensures { Lays (truth yes) buffer.old buffer.new result }
 {
-    let mut small = [0u8; numeral::SMALL_BYTES];
-    let at = numeral::render_truth(yes, &mut small);
-    show_small(&small, at, buffer)
+    let mut small = Small::new();
+    numeral::render_truth(yes, &mut small);
+    show_small(&small, buffer)
 }
 
 // Shows bytes in hexadecimal.
@@ -109,7 +109,7 @@ pub fn show(token: u8, payload: &[u8], buffer: &mut [u8]) -> Shown
 fn front<'a>(s: &'a [u8], n: usize) -> &'a [u8]
     ensures { result.now ≡ take n s.now }
 {
-    if n < s.len() { &s[..n] } else { s }
+    &s[..n.min(s.len())]
 }
 
 // After `show`: the text, as a part of the payload or of the buffer; an empty part where it was refused.
@@ -119,7 +119,6 @@ pub fn part<'a>(payload: &'a [u8], buffer: &'a [u8], shown: Shown) -> &'a [u8]
     match shown {
         Shown::Own(n) => front(payload, n),
         Shown::Made(n) => front(buffer, n),
-        Shown::Short(_) => &payload[..0],
-        Shown::NoText => &payload[..0],
+        Shown::Short(_) | Shown::NoText => &payload[..0],
     }
 }

@@ -2,8 +2,6 @@
 // expected answer. Each line is written again with the answer that `show` and `part` give, so that the output equals the files.
 #![tactic(auto)]
 
-ghost use Rattle.std.specs.Prelude.{◌≤◌, ◌<◌};
-
 use std::io;
 use text::Shown;
 
@@ -12,65 +10,34 @@ const ROOM: usize = 1100;
 
 const PATTERN: u8 = 165;
 
-// Writes bytes as they are.
-fn put(rt: &impl Print, bytes: &[u8]) -> io::Result<()> {
-    rt.write_all(bytes)
-}
-
-// Writes a number in decimal.
-fn put_number(rt: &impl Print, n: usize) -> io::Result<()> {
-    rt.print(n)
-}
-
-// The hexadecimal digit of a number below 16.
-fn hex_digit(d: u8) -> u8
-    requires { d < 16 }
-{
-    if d < 10 {
-        return 48 + d;
-    }
-    55 + d
-}
-
 // Writes bytes in hexadecimal, or `-` for none.
 fn put_bytes(rt: &impl Print, bytes: &[u8]) -> io::Result<()> {
-    if bytes.len() == 0 {
-        put(rt, b"-")?;
+    if bytes.is_empty() {
+        return rt.write_all(b"-");
     }
-    let mut pair = [0u8; 2];
-    let mut i = 0;
-    while i < bytes.len() {
-        pair[0] = hex_digit(bytes[i] / 16);
-        pair[1] = hex_digit(bytes[i] % 16);
-        put(rt, &pair)?;
-        i += 1;
+    for b in bytes {
+        print!(rt; "{b:02X}")?;
     }
     Ok(())
 }
 
 // Writes an answer number, and its place or count.
 fn put_answer(rt: &impl Print, number: u32, count: usize) -> io::Result<()> {
-    put_number(rt, number as usize)?;
-    put(rt, b" ")?;
-    put_number(rt, count)?;
-    put(rt, b" ")
+    print!(rt; "{number} {count} ")
 }
 
 // How many bytes of the buffer an answer may have changed.
 fn written(shown: Shown) -> usize {
     match shown {
-        Shown::Own(_) => 0,
         Shown::Made(n) => n,
-        Shown::Short(_) => 0,
-        Shown::NoText => 0,
+        Shown::Own(_) | Shown::Short(_) | Shown::NoText => 0,
     }
 }
 
 // Writes what `show` answered, as a number and its place or count.
 fn put_shown(rt: &impl Print, shown: Shown) -> io::Result<()> {
     match shown {
-        Shown::Own(n) => put_answer(rt, token::ACCEPTED, n),
-        Shown::Made(n) => put_answer(rt, token::ACCEPTED, n),
+        Shown::Own(n) | Shown::Made(n) => put_answer(rt, token::ACCEPTED, n),
         Shown::Short(n) => put_answer(rt, token::NO_ROOM, n),
         Shown::NoText => put_answer(rt, token::NO_TEXT, 0),
     }
@@ -79,10 +46,9 @@ fn put_shown(rt: &impl Print, shown: Shown) -> io::Result<()> {
 // Writes where the text is.
 fn put_where(rt: &impl Print, shown: Shown) -> io::Result<()> {
     match shown {
-        Shown::Own(_) => put(rt, b" payload"),
-        Shown::Made(_) => put(rt, b" buffer"),
-        Shown::Short(_) => put(rt, b" none"),
-        Shown::NoText => put(rt, b" none"),
+        Shown::Own(_) => rt.write_all(b" payload"),
+        Shown::Made(_) => rt.write_all(b" buffer"),
+        Shown::Short(_) | Shown::NoText => rt.write_all(b" none"),
     }
 }
 
@@ -93,24 +59,14 @@ fn put_result<'a>(
     buffer: &'a [u8],
     shown: Shown,
 ) -> io::Result<()> {
-    put(rt, b" -> ")?;
+    rt.write_all(b" -> ")?;
     put_shown(rt, shown)?;
     put_bytes(rt, text::part(payload, buffer, shown))?;
     put_where(rt, shown)?;
-    if cases::changed_bytes(buffer, written(shown), PATTERN) {
-        put(rt, b" CHANGED")?;
+    if cases::changed(buffer, written(shown), PATTERN) {
+        rt.write_all(b" CHANGED")?;
     }
     Ok(())
-}
-
-// A size that the buffer has room for.
-fn room_for(size: usize) -> usize
-    ensures { result ≤ 1100 }
-{
-    if size < ROOM {
-        return size;
-    }
-    ROOM
 }
 
 // Shows a value, and writes the result.
@@ -135,37 +91,31 @@ fn run_case(rt: &impl Print, line: &[u8]) -> io::Result<()> {
     cases::bytes(&line[..token_end], &mut token);
     let mut payload = [0u8; 1024];
     let count = cases::bytes(&line[payload_at..payload_end], &mut payload);
-    let size = room_for(cases::decimal(&line[size_at..size_end]));
+    let size = cases::decimal(&line[size_at..size_end]).min(ROOM);
     let mut buffer = [PATTERN; ROOM];
-    put(rt, &line[..size_end])?;
+    rt.write_all(&line[..size_end])?;
     show_case(rt, token[0], &payload[..count], &mut buffer[..size])
 }
 
 // Whether a line is a comment.
 fn is_comment(line: &[u8]) -> bool {
-    if line.len() == 0 {
-        return true;
-    }
-    line[0] == b'#'
+    line.is_empty() || line.starts_with(b"#")
 }
 
 // Writes a line again, with its own answer.
 fn run_line(rt: &impl Print, line: &[u8]) -> io::Result<()> {
     if is_comment(line) {
-        put(rt, line)?;
+        rt.write_all(line)?;
     } else {
         run_case(rt, line)?;
     }
-    put(rt, b"\n")
+    rt.write_all(b"\n")
 }
 
 // Runs the cases of a text, line by line.
 fn run_lines(rt: &impl Print, text: &[u8]) -> io::Result<()> {
-    let mut at = 0;
-    while at < text.len() {
-        let end = cases::line_end(text, at);
-        run_line(rt, &text[at..end])?;
-        at = end + 1;
+    for line in text.split_inclusive(|b| *b == b'\n') {
+        run_line(rt, line.strip_suffix(b"\n").unwrap_or(line))?;
     }
     Ok(())
 }

@@ -1,3 +1,4 @@
 pub mod Tokens
 pub mod Entries
 pub mod Fixed
+pub mod Faults

@@ -6,6 +6,7 @@ ghost use Rattle.std.specs.Prelude.{◌≡◌};
 ghost use Rattle.token.specs.Tokens.{class_of, shape_of};
 ghost use Rattle.token.specs.Entries.{Listed, class_in, shape_in};
 ghost use Rattle.token.specs.Fixed.{fixed_by, fixed_of};
+ghost use Rattle.token.specs.Faults.{number_of};
 
 mod entries;
 
@@ -71,26 +72,10 @@ pub const ENDNEST_TOKEN: u8 = 0xEB;
 
 pub const XSD_QNAME: u8 = 0x8C;
 
-// 01, "Answer numbers".
+// 01, "Answer numbers": those that an answer has without a refusal's fault beside it.
 pub const ACCEPTED: u32 = 0;
 
 pub const TOO_LONG: u32 = 1;
-
-pub const MISSING: u32 = 2;
-
-pub const BAD_HEADER: u32 = 3;
-
-pub const BAD_NUMBER: u32 = 4;
-
-pub const BAD_TOKEN: u32 = 5;
-
-pub const NOT_DEFINED: u32 = 6;
-
-pub const BAD_VALUE: u32 = 7;
-
-pub const TOO_DEEP: u32 = 8;
-
-pub const NO_ROW: u32 = 9;
 
 pub const NO_ROOM: u32 = 10;
 
@@ -100,6 +85,39 @@ pub const NO_TEXT: u32 = 12;
 
 pub const FORM_TOO_LONG: u32 = 13;
 
+// Why a job refuses, by the number of 01, "Answer numbers".
+#[derive(Clone, Copy, Debug, PartialEq, Eq)]
+pub enum Fault {
+    TooLong = 1,
+    Missing,
+    BadHeader,
+    BadNumber,
+    BadToken,
+    NotDefined,
+    BadValue,
+    TooDeep,
+    NoRow,
+    NoRoom,
+    NoPairs,
+    NoText,
+    FormTooLong,
+}
+
+impl Fault {
+    pub fn number(self) -> u32
+        ensures { result ≡ number_of self }
+    {
+        self as u32
+    }
+}
+
+// A refusal: why, and the place or count that stands beside it.
+#[derive(Clone, Copy, Debug, PartialEq, Eq)]
+pub struct Refusal {
+    pub fault: Fault,
+    pub place: usize,
+}
+
 // A name's number and a qname's number, counted apart in each document. Two types, so that neither is taken for the other.
 #[derive(Clone, Copy)]
 pub struct NameNumber(pub usize);
@@ -107,7 +125,8 @@ pub struct NameNumber(pub usize);
 #[derive(Clone, Copy)]
 pub struct QnameNumber(pub usize);
 
-// What a token byte is. A value of version 2 has a class of its own.
+// What a token byte is. A value of version 2 has a class of its own, and so has a byte that is no token: as None it would be an arm more
+// in each match all the same.
 #[derive(Clone, Copy)]
 pub enum Class {
     Unknown,
@@ -138,7 +157,7 @@ pub enum Class {
 // What follows a token as its payload.
 #[derive(Clone, Copy)]
 pub enum Shape {
-    // no payload: nothing follows, or fields that are read one by one
+    // no payload: nothing follows, or fields that are read one by one. A shape as the others: its rule is that the payload is empty
     Nothing,
     // so many bytes
     Fixed(usize),

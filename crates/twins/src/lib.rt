@@ -21,63 +21,57 @@ const SLOTS: usize = 4096;
 
 const MODULUS: u64 = SLOTS as u64;
 
-// Part k of n.
-fn part<'a>(syms: &'a [u32], starts: &[usize], k: usize, n: usize) -> &'a [u32]
-    requires { Cut syms.now starts.now n × (k < n) }
-    ensures { result.now ≡ part_at syms.now starts.now k }
-{
-    let a = starts[k];
-    let e = starts[k + 1];
-    &syms[a..e]
+// The n parts of one array, one after the other, and the hash of each. Starts and hashes stay two arrays: `link` is lent them apart by
+// render's buffers.
+#[derive(Drop)]
+struct Parts<'a> {
+    syms: &'a [u32],
+    starts: &'a [usize],
+    hashes: &'a [u64; BOUNDS],
+    n: usize,
+    ghost few: { n ≤ most_parts },
+    ghost cut: { Cut syms.now starts.now n },
+    ghost hashed: { HashesOf (part_at syms.now starts.now) n hashes.now },
 }
 
-// Whether part j is equal to part i, whose hash is h. The hashes are compared first: most unequal parts differ there.
-fn is_twin(
-    syms: &[u32],
-    starts: &[usize],
-    hashes: &[u64; BOUNDS],
-    i: usize,
-    j: usize,
-    n: usize,
-    h: u64,
-) -> bool
-    requires { (n ≤ most_parts) × Cut syms.now starts.now n × (i < n) × (j < n)
-        × HashesOf (part_at syms.now starts.now) n hashes.now
-        × (h ≡ hash_of (part_at syms.now starts.now i)) }
-    ensures { result ≡ same (part_at syms.now starts.now i) (part_at syms.now starts.now j) }
-{
-    if hashes[j + 1] != h {
-        return false;
+impl Parts<'_> {
+    // Part k.
+    fn part(&self, k: usize) -> &[u32]
+        requires { k < self.now.n }
+        ensures { result.now ≡ part_at self.now.syms.now self.now.starts.now k }
+    {
+        let a = self.starts[k];
+        let e = self.starts[k + 1];
+        &self.syms[a..e]
     }
-    slices::same_numbers(part(syms, starts, i, n), part(syms, starts, j, n))
-}
 
-// The next part equal to part i, along the chain of its slot.
-fn find(
-    syms: &[u32],
-    starts: &[usize],
-    hashes: &[u64; BOUNDS],
-    chain: &[u16; PARTS],
-    first: usize,
-    i: usize,
-    n: usize,
-    h: u64,
-) -> usize
-    requires { (n ≤ most_parts) × Cut syms.now starts.now n × (i < n)
-        × HashesOf (part_at syms.now starts.now) n hashes.now
-        × PartsChained (part_at syms.now starts.now) n (i + 1) chain.now
-        × (h ≡ hash_of (part_at syms.now starts.now i))
-        × Head (λ x. part_slot (part_at syms.now starts.now x)) n (h % part_slots) (i + 1) first }
-    ensures { Next (part_at syms.now starts.now) n i result }
-{
-    let mut j = first;
-    while j < n {
-        if is_twin(syms, starts, hashes, i, j, n, h) {
-            return j;
+    // Whether part j is equal to part i, whose hash is h. The hashes are compared first: most unequal parts differ there.
+    fn is_twin(&self, i: usize, j: usize, h: u64) -> bool
+        requires { (i < self.now.n) × (j < self.now.n) × (h ≡ hash_of (part_at self.now.syms.now self.now.starts.now i)) }
+        ensures { result ≡ same (part_at self.now.syms.now self.now.starts.now i) (part_at self.now.syms.now self.now.starts.now j) }
+    {
+        if self.hashes[j + 1] != h {
+            return false;
         }
-        j = chain[j] as usize;
+        self.part(i) == self.part(j)
     }
-    j
+
+    // The next part equal to part i, along the chain of its slot.
+    fn find(&self, chain: &[u16; PARTS], first: usize, i: usize, h: u64) -> usize
+        requires { (i < self.now.n) × PartsChained (part_at self.now.syms.now self.now.starts.now) self.now.n (i + 1) chain.now
+            × (h ≡ hash_of (part_at self.now.syms.now self.now.starts.now i))
+            × Head (λ x. part_slot (part_at self.now.syms.now self.now.starts.now x)) self.now.n (h % part_slots) (i + 1) first }
+        ensures { Next (part_at self.now.syms.now self.now.starts.now) self.now.n i result }
+    {
+        let mut j = first;
+        while j < self.n {
+            if self.is_twin(i, j, h) {
+                return j;
+            }
+            j = usize::from(chain[j]);
+        }
+        j
+    }
 }
 
 // How many equal parts come after one whose next is j.
@@ -106,6 +100,12 @@ pub fn link(
         × Linked (parts_of syms.now starts.now n) next.new
         × (length next.new ≡ most_parts) }
 {
+    let parts = Parts {
+        syms,
+        starts,
+        hashes,
+        n,
+    };
     // Places and counts are at most 2048: as u16 there are fewer bytes to clear.
     let mut slots = [n as u16; SLOTS];
     // Both arrays are written before they are read. A first value whose bytes differ is stored by vector instructions, and
@@ -113,13 +113,11 @@ pub fn link(
     let mut chain = [1u16; PARTS];
     let mut later = [1u16; PARTS];
     let mut pairs: usize = 0;
-    let mut i = n;
-    while 0 < i {
-        i -= 1;
+    for i in (0..n).rev() {
         let h = hashes[i + 1];
         let s = (h % MODULUS) as usize;
         let first = slots[s] as usize;
-        let j = find(syms, starts, hashes, &chain, first, i, n, h);
+        let j = parts.find(&chain, first, i, h);
         next[i] = j;
         chain[i] = first as u16;
         slots[s] = i as u16;
@@ -169,9 +167,7 @@ pub fn write_pairs(
     ensures { pairs.new ≡ overlay (flat_pairs (pairs_of same (parts_of syms.now starts.now n))) pairs.old }
 {
     let mut at = 0;
-    let mut i = 0;
-    while i < n {
+    for i in 0..n {
         at = write_run(syms, starts, n, next, i, pairs, at);
-        i += 1;
     }
 }

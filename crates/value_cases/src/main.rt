@@ -15,18 +15,11 @@ fn answer(rt: &impl Print, table: &[u16; 256], doc: &[u8]) -> io::Result<()>
     requires { Listed table.now × (0 < length doc.now) }
 {
     match value::read(token::shape_at(table, doc[0]), doc, 0) {
-        Field::Payload { place, size } => {
-            cases::say(rt, b" -> payload at ", place)?;
-            cases::say(rt, b" size ", size)
+        Ok(Field::Payload { place, size }) => { print!(rt; " -> payload at {place} size {size}") }
+        Ok(Field::Reference { number, next }) => {
+            print!(rt; " -> qname {} next {next}", number.0)
         }
-        Field::Reference { number, next } => {
-            cases::say(rt, b" -> qname ", number.0)?;
-            cases::say(rt, b" next ", next)
-        }
-        Field::Refused { number, place } => {
-            cases::say(rt, b" -> refused ", number as usize)?;
-            cases::say(rt, b" at ", place)
-        }
+        Err(r) => { print!(rt; " -> refused {} at {}", r.fault.number(), r.place) }
     }
 }
 
@@ -45,11 +38,8 @@ fn case(rt: &impl Print, table: &[u16; 256], line: &[u8]) -> io::Result<()>
 fn run(rt: &impl Print, table: &[u16; 256], text: &[u8]) -> io::Result<()>
     requires { Listed table.now }
 {
-    let mut at = 0;
-    while at < text.len() {
-        let end = cases::line_end(text, at);
-        case(rt, table, &text[at..end])?;
-        at = end + 1;
+    for line in text.split_inclusive(|b| *b == b'\n') {
+        case(rt, table, line.strip_suffix(b"\n").unwrap_or(line))?;
     }
     Ok(())
 }

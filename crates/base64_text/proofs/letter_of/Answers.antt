@@ -4,4 +4,4 @@ use Rattle.base64_text.proofs.letter_of.Goals as goal
 
 pub returns : goal.returns
 unfolding Alphabet
-returns c = c.requires.0 c.args.v c.requires.1
+returns c = rw c.from.ensures (c.requires.0 c.args.v c.requires.1)

@@ -4,5 +4,5 @@ use Rattle.chunks.proofs.of_limbs.Goals as goal
 
 pub returns : goal.returns
 returns c =
-    chunks c.requires c.divide-s.ensures c.divide-t.ensures
-    c.divide-u.ensures c.divide-v.ensures
+    chunks c.requires c.divide-r.ensures c.divide-t.ensures
+    c.divide-v.ensures c.divide-x.ensures

@@ -16,7 +16,7 @@ put_counted-requires-in-Blob c =
 pub put_part-requires : goal.put_part-requires
 put_part-requires c =
     let e = of_others c.args.shape _ _ c.args.size c.requires.0 c.in_default.not-Text c.in_default.not-Blob c.in_default.not-CodePage c.in_default.not-Decimal in
-    (c.requires.0, c.requires.1, c.requires.2, value_fits_bare _ e c.requires.3)
+    (c.requires.0, c.requires.1, omega (arith, c.requires.2), value_fits_bare _ e c.requires.3)
 
 pub returns-in-Text : goal.returns-in-Text
 returns-in-Text c =

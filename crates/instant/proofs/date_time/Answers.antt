@@ -1,6 +1,7 @@
 -- `instant::date_time` meets its contract: whole days are carried into the date. Assumes nothing.
 use Rattle.instant.proofs.Fields.{date_time_fields}
 use Rattle.instant.proofs.Ways.{date_time_is}
+use mathlib.Core.Path.{◌∙◌}
 use native.Mathlib.Omega.{arith}
 use Rattle.instant.proofs.date_time.Goals as goal
 
@@ -18,14 +19,12 @@ date_at-requires c =
     let f = date_time_fields _ c.requires in
     omega (arith, f.fine, c.fields_of-s.ensures.0)
 
-pub returns-in-At : goal.returns-in-At
-returns-in-At c =
+pub returns-in_err-local : goal.returns-in_err-local
+returns-in_err-local c =
     let s = c.fields_of-s.ensures in
-    date_time_is _ s.0 s.1 s.2 c.since_first.ensures.0 c.in-At.is
-    c.date_at.ensures
+    c.from_residual.ensures ∙ date_time_is _ s.0 s.1 s.2 c.since_first.ensures.0 c.in_err-local.was c.date_at.ensures
 
-pub returns-in-Outside : goal.returns-in-Outside
-returns-in-Outside c =
+pub returns : goal.returns
+returns c =
     let s = c.fields_of-s.ensures in
-    date_time_is _ s.0 s.1 s.2 c.since_first.ensures.0 c.in-Outside.is
-    c.date_at.ensures
+    date_time_is _ s.0 s.1 s.2 c.since_first.ensures.0 c.in_ok-local.was c.date_at.ensures

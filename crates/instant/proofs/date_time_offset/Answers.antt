@@ -1,6 +1,7 @@
 -- `instant::date_time_offset` meets its contract: whole days are carried, and the zone moves UTC into local time. Assumes nothing.
 use Rattle.instant.proofs.Fields.{zoned_fields}
 use Rattle.instant.proofs.Ways.{zoned_is}
+use mathlib.Core.Path.{◌∙◌}
 use native.Mathlib.Omega.{arith}
 use Rattle.instant.proofs.date_time_offset.Goals as goal
 
@@ -22,16 +23,14 @@ local_at-requires c =
     let s = c.fields_of-s.ensures in
     (omega (arith, f.time.fine, s.0), c.since_first-utc.ensures.1, omega (arith, f.near, c.zone_of-zone.ensures.1))
 
-pub returns-in-At : goal.returns-in-At
-returns-in-At c =
+pub returns-in_err-local : goal.returns-in_err-local
+returns-in_err-local c =
     let s = c.fields_of-s.ensures in
     let z = c.zone_of-zone.ensures in
-    zoned_is _ s.0 s.1 s.2 c.since_first-utc.ensures.0 c.in-At.is z.0 z.1
-    c.local_at.ensures
+    c.from_residual.ensures ∙ zoned_is _ s.0 s.1 s.2 c.since_first-utc.ensures.0 c.in_err-local.was z.0 z.1 c.local_at.ensures
 
-pub returns-in-Outside : goal.returns-in-Outside
-returns-in-Outside c =
+pub returns : goal.returns
+returns c =
     let s = c.fields_of-s.ensures in
     let z = c.zone_of-zone.ensures in
-    zoned_is _ s.0 s.1 s.2 c.since_first-utc.ensures.0 c.in-Outside.is z.0 z.1
-    c.local_at.ensures
+    zoned_is _ s.0 s.1 s.2 c.since_first-utc.ensures.0 c.in_ok-local.was z.0 z.1 c.local_at.ensures

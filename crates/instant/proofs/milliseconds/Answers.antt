@@ -6,8 +6,8 @@ use Rattle.instant.proofs.milliseconds.Goals as goal
 pub word_of-ticks-requires : goal.word_of-ticks-requires
 word_of-ticks-requires c = eight_bytes c.args.p.now (stamp_field _ c.requires)
 
-pub returns-then-ticks-lt-MILLISECONDS_OF_DAY : goal.returns-then-ticks-lt-MILLISECONDS_OF_DAY
-returns-then-ticks-lt-MILLISECONDS_OF_DAY c = milliseconds_in _ c.word_of-ticks.ensures.0 c.if-ticks-lt-MILLISECONDS_OF_DAY.true
+pub returns-then-ticks-ge-MILLISECONDS_OF_DAY : goal.returns-then-ticks-ge-MILLISECONDS_OF_DAY
+returns-then-ticks-ge-MILLISECONDS_OF_DAY c = milliseconds_past _ c.word_of-ticks.ensures.0 c.if-ticks-ge-MILLISECONDS_OF_DAY.true
 
 pub returns : goal.returns
-returns c = milliseconds_past _ c.word_of-ticks.ensures.0 c.if-ticks-lt-MILLISECONDS_OF_DAY.false
+returns c = milliseconds_in _ c.word_of-ticks.ensures.0 c.if-ticks-ge-MILLISECONDS_OF_DAY.false

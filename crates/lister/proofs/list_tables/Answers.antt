@@ -15,7 +15,7 @@ name_classes-requires c =
 pub render-records-requires : goal.render-records-requires
 render-records-requires c =
     let n = c.name_classes.ensures in
-    (record { filled = c.requires.0; classes_long = n.1; classes_are = n.0 }, c.requires.1, length-replicate {A = ℕ} 2049 1, length-replicate {A = ℕ} 2049 1)
+    (record { filled = c.requires.0; classes_long = n.1; classes_are = n.0 }, c.requires.1)
 
 pub slice_bounds-link-end : goal.slice_bounds-link-end
 slice_bounds-link-end c = sym c.render-records.ensures.starts_long

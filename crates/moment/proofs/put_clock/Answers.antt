@@ -1,13 +1,17 @@
 -- `moment::put_clock` meets its contract: the digits after the point, seconds, minutes and hours from the right. Assumes nothing.
-use Rattle.moment.proofs.Puts.{clock_put}
+use Rattle.moment.proofs.Puts.{fraction_long, digits_long, field_long, clock_put}
 use native.Mathlib.Omega.{arith}
 use Rattle.moment.proofs.put_clock.Goals as goal
 
+pub put_last-requires-clause-room : goal.put_last-requires-clause-room
+put_last-requires-clause-room c = omega (arith, fraction_long _ _ _ c.put_fraction.ensures.put, c.requires.0, c.requires.1)
+
+pub put_field-requires : goal.put_field-requires
+put_field-requires c = omega (arith, fraction_long _ _ _ c.put_fraction.ensures.put, digits_long _ _ _ c.put_last.ensures.put, c.requires.0, c.requires.1)
+
+pub put_field-requires-2 : goal.put_field-requires-2
+put_field-requires-2 c =
+    omega (arith, fraction_long _ _ _ c.put_fraction.ensures.put, digits_long _ _ _ c.put_last.ensures.put, field_long _ _ _ _ c.put_field.ensures, c.requires.0, c.requires.1)
+
 pub returns : goal.returns
-returns c =
-    let t = c.ten_to.ensures in
-    let w = c.put_fraction-a.ensures in
-    let x = c.put_digits-b.ensures in
-    let y = c.put_field-c.ensures in
-    let z = c.put_field.ensures in
-    (clock_put _ _ t.0 w.0 x.0 y.0 z.0, omega (arith, w.1, x.1, y.1, z.1), omega (arith, w.2, x.1, y.1, z.1))
+returns c = clock_put _ _ _ c.ten_to.ensures.0 c.put_fraction.ensures.put c.put_last.ensures.put c.put_field.ensures c.put_field-2.ensures

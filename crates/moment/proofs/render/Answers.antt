@@ -1,44 +1,37 @@
 -- `moment::render` meets its contract: each arm by the law of its kind of moment. Assumes nothing.
-use Rattle.moment.proofs.Puts.{writable_on, put_last, ends_day, ends_time, ends_day_time, ends_zoned}
-use lib.Dec.{lit≤}
+use Rattle.std.proofs.Common.{ap}
+use Rattle.moment.proofs.Puts.{writable_on, alone, zone_room, zoned, text_day, text_time, text_day_time, text_zoned}
+use lib.ListN.{length}
+use native.Mathlib.Omega.{arith}
 use Rattle.moment.proofs.render.Goals as goal
 
 pub put_date-requires : goal.put_date-requires
-put_date-requires c =
-    let pre = c.requires in
-    (writable_on c.in-Day.is pre.0, lit≤ tt, lit≤ tt, pre.1)
+put_date-requires c = (writable_on c.in-Day.is c.requires, omega (arith, ap length c.clear.ensures))
 
 pub put_clock-requires : goal.put_clock-requires
-put_clock-requires c =
-    let pre = c.requires in
-    (writable_on c.in-Time.is pre.0, lit≤ tt, lit≤ tt, pre.1)
+put_clock-requires c = (writable_on c.in-Time.is c.requires, omega (arith, ap length c.clear.ensures))
 
 pub put_day_time-requires : goal.put_day_time-requires
 put_day_time-requires c =
-    let pre = c.requires in
-    let w = writable_on c.in-DayTime.is pre.0 in
-    (w.0, w.1, lit≤ tt, lit≤ tt, pre.1)
+    let w = writable_on c.in-DayTime.is c.requires in
+    (w.0, w.1, omega (arith, ap length c.clear.ensures))
 
-pub render_zoned-requires : goal.render_zoned-requires
-render_zoned-requires c =
-    let pre = c.requires in
-    let w = writable_on c.in-Zoned.is pre.0 in
-    (w.0, w.1, pre.1)
+pub put_zone-requires : goal.put_zone-requires
+put_zone-requires c = omega (arith, ap length c.clear.ensures)
+
+pub put_day_time-requires-in-Zoned : goal.put_day_time-requires-in-Zoned
+put_day_time-requires-in-Zoned c =
+    let w = writable_on c.in-Zoned.is c.requires in
+    (w.0, w.1, zone_room _ _ _ c.clear.ensures c.put_zone.ensures)
 
 pub returns-in-Day : goal.returns-in-Day
-returns-in-Day c =
-    ends_day c.in-Day.is
-    (put_last c.requires.1 c.put_date.ensures.0)
+returns-in-Day c = text_day c.in-Day.is (alone _ _ c.clear.ensures c.put_date.ensures)
 
 pub returns-in-Time : goal.returns-in-Time
-returns-in-Time c =
-    ends_time c.in-Time.is
-    (put_last c.requires.1 c.put_clock.ensures.0)
+returns-in-Time c = text_time c.in-Time.is (alone _ _ c.clear.ensures c.put_clock.ensures)
 
 pub returns-in-DayTime : goal.returns-in-DayTime
-returns-in-DayTime c =
-    ends_day_time c.in-DayTime.is
-    (put_last c.requires.1 c.put_day_time.ensures)
+returns-in-DayTime c = text_day_time c.in-DayTime.is (alone _ _ c.clear.ensures c.put_day_time.ensures)
 
 pub returns-in-Zoned : goal.returns-in-Zoned
-returns-in-Zoned c = ends_zoned c.in-Zoned.is c.render_zoned.ensures
+returns-in-Zoned c = text_zoned c.in-Zoned.is (zoned _ _ _ _ _ _ c.clear.ensures c.put_zone.ensures c.put_day_time-in-Zoned.ensures)

@@ -1,13 +1,10 @@
-use Rattle.name_classes.proofs.Texts.{hash_start, hash_next, hash_end}
+use Rattle.name_classes.proofs.Texts.{hash_next, hash_end}
 use Rattle.name_classes.proofs.hash_of.Goals as goal
-
-pub loop-k-init : goal.loop-k-init
-loop-k-init c = hash_start c.args.text.now
 
 pub loop-k-preserved : goal.loop-k-preserved
 loop-k-preserved c =
     hash_next c.args.text.now _ _ _ _ c.loop-k.invariant c.loop-k-test.true
-    (rw (← c.wide32.ensures.0, ← c.wide32-in-loop-k.ensures.0)) c.mix-h.ensures
+    (rw (← c.from.ensures, ← c.from-in-loop-k.ensures)) c.mix-h.ensures
 
 pub returns : goal.returns
 returns c = hash_end c.args.text.now _ _ c.loop-k.invariant c.loop-k-test.false

@@ -7,6 +7,3 @@ pub returns-then-hashes-j : goal.returns-then-hashes-j
 returns-then-hashes-j c =
     let text = row_text_at c.args.doc.now c.args.names.now in
     texts_differ (text c.args.j) (text c.args.r) _ _ (c.requires.2 _ c.requires.1) c.requires.3 c.if-hashes-j.true
-
-pub returns : goal.returns
-returns c = rw (← c.row_text.ensures, ← c.row_text-2.ensures) c.same_bytes.ensures

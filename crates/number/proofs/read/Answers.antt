@@ -17,7 +17,7 @@ raised-scale-requires c = let u = c.loop-left.invariant.unit_kept in omega arith
 
 pub loop-left-preserved : goal.loop-left-preserved
 loop-left-preserved c =
-    going_on c.loop-left.invariant c.if-left-eq0.false c.if-doc-next.false c.wide_place-b.ensures.0
+    going_on c.loop-left.invariant c.if-left-eq0.false c.if-doc-next.false c.from-b.ensures
     c.grown-value.ensures c.if-b-lt128.false c.raised-scale.ensures
 
 pub returns-then-left-eq0 : goal.returns-then-left-eq0
@@ -28,10 +28,10 @@ returns-then-doc-next c = too_short c.loop-left.invariant c.if-left-eq0.false c.
 
 pub returns-then-value-gt-LARGEST : goal.returns-then-value-gt-LARGEST
 returns-then-value-gt-LARGEST c =
-    too_large c.loop-left.invariant c.if-left-eq0.false c.if-doc-next.false c.wide_place-b.ensures.0
+    too_large c.loop-left.invariant c.if-left-eq0.false c.if-doc-next.false c.from-b.ensures
     c.grown-value.ensures c.if-b-lt128.true c.if-value-gt-LARGEST.true
 
 pub returns-else-value-gt-LARGEST : goal.returns-else-value-gt-LARGEST
 returns-else-value-gt-LARGEST c =
-    found c.loop-left.invariant c.if-left-eq0.false c.if-doc-next.false c.wide_place-b.ensures.0
+    found c.loop-left.invariant c.if-left-eq0.false c.if-doc-next.false c.from-b.ensures
     c.grown-value.ensures c.if-b-lt128.true c.if-value-gt-LARGEST.false

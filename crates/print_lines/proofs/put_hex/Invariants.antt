@@ -1,9 +1,9 @@
--- `print_lines::put_hex` meets its contract. The loop's invariant is `HexSoFar`. Assumes nothing.
-use Rattle.print_lines.proofs.Loops.{HexSoFar}
+-- `print_lines::put_hex` meets its contract: the digits of the bytes so far, from the last byte to the first. Assumes nothing.
+use Rattle.std.proofs.Common.{◌≡◌, ◌+◌, ◌*◌, length}
+use Rattle.hexadecimal.specs.Hexadecimal.{hex}
+use Rattle.print_lines.specs.Lines.{PutBefore}
+use Rattle.print_lines.proofs.Loops.{seen}
 use Rattle.print_lines.proofs.put_hex.Given as goal
 
-abbrev pub invariant-loop-i : goal.invariant-loop-i
-invariant-loop-i l = HexSoFar l.bytes l.initial.text l.text l.end l.at l.i
-
-abbrev pub decreases-loop-i : goal.decreases-loop-i
-decreases-loop-i l = l.i
+abbrev pub invariant-loop-b : goal.invariant-loop-b
+invariant-loop-b l = PutBefore l.initial.text l.text l.end l.at (hex (seen l.yielded)) × (l.at + 2 * length l.yielded ≡ l.end)

@@ -5,9 +5,6 @@ use Rattle.print_listing.proofs.put_pairs.Goals as goal
 pub loop-k-init : goal.loop-k-init
 loop-k-init c = lines_start c.args.pairs.now c.args.text.now c.args.count c.requires.0 c.requires.1
 
-pub overflow_sub-k : goal.overflow_sub-k
-overflow_sub-k c = omega (arith, c.loop-k-test.true)
-
 pub overflow_mul-k : goal.overflow_mul-k
 overflow_mul-k c = let f = c.loop-k.invariant in omega (arith, f.few, c.requires.1, c.ranges)
 
@@ -28,9 +25,6 @@ put_line-at-requires c =
     let f = c.loop-k.invariant in
     let s = pair_room_fact f (omega (arith, c.loop-k-test.true)) c.cell-earlier.ensures c.cell-later.ensures in
     (omega (arith, s, f.room, c.loop-k-test.true), omega (arith, f.put.place, f.put.long))
-
-pub loop-k-smaller : goal.loop-k-smaller
-loop-k-smaller c = omega (arith, c.loop-k-test.true)
 
 pub loop-k-preserved : goal.loop-k-preserved
 loop-k-preserved c = lines_next c.loop-k.invariant (omega (arith, c.loop-k-test.true)) c.cell-earlier.ensures c.cell-later.ensures c.put_line-at.ensures

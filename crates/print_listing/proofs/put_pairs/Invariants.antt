@@ -4,6 +4,3 @@ use Rattle.print_listing.proofs.put_pairs.Given as goal
 
 abbrev pub invariant-loop-k : goal.invariant-loop-k
 invariant-loop-k l = LinesSoFar l.pairs l.initial.text l.text l.count l.at l.k
-
-abbrev pub decreases-loop-k : goal.decreases-loop-k
-decreases-loop-k l = l.k

@@ -10,9 +10,6 @@ loop-k-init c =
     rows_start (events_from c.args.events.now c.args.rows) (λ j. qnames_end + event_line * j) c.args.text.now c.args.end c.args.rows
     c.requires.2 (events_none c.args.events.now c.args.rows)
 
-pub overflow_sub-k : goal.overflow_sub-k
-overflow_sub-k c = omega (arith, c.loop-k-test.true)
-
 pub overflow_mul-k : goal.overflow_mul-k
 overflow_mul-k c = omega (arith, c.loop-k.invariant.few, c.requires.1)
 
@@ -37,9 +34,6 @@ put_token-at-requires c =
     let p = c.put_numbers-at.ensures in
     let more = c.loop-k-test.true in
     (omega (arith, f.roomy, p.1, more), omega (arith, f.put.place, f.put.long, p.0.place, p.0.long, c.requires.3))
-
-pub loop-k-smaller : goal.loop-k-smaller
-loop-k-smaller c = omega (arith, c.loop-k-test.true)
 
 pub loop-k-preserved : goal.loop-k-preserved
 loop-k-preserved c =

@@ -6,6 +6,3 @@ use Rattle.print_rows.proofs.put_events.Given as goal
 
 abbrev pub invariant-loop-k : goal.invariant-loop-k
 invariant-loop-k l = RowsSoFar (events_from l.events l.rows) (λ j. qnames_end + event_line * j) l.initial.text l.text l.end l.rows l.at l.k
-
-abbrev pub decreases-loop-k : goal.decreases-loop-k
-decreases-loop-k l = l.k

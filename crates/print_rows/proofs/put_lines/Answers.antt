@@ -12,9 +12,6 @@ loop-k-init c =
     rows_start (lines_from a.word.now a.width a.table.now a.rows) (room_from (line_room a.word.now a.width) a.end a.rows) a.text.now a.end a.rows
     (omega (arith, c.requires.3)) (lines_none a.word.now a.width a.table.now a.rows)
 
-pub overflow_sub-k : goal.overflow_sub-k
-overflow_sub-k c = omega (arith, c.loop-k-test.true)
-
 pub overflow_mul-width : goal.overflow_mul-width
 overflow_mul-width c =
     let l = c.loop-k in
@@ -43,9 +40,6 @@ put_word-at-requires c =
     let more = c.loop-k-test.true in
     let line = times_less (line_room c.args.word.now c.args.width) c.loop-k.k (omega (arith, more)) in
     (omega (arith, f.roomy, line, p.1), omega (arith, f.put.place, f.put.long, p.0.place, p.0.long, c.requires.4))
-
-pub loop-k-smaller : goal.loop-k-smaller
-loop-k-smaller c = omega (arith, c.loop-k-test.true)
 
 pub loop-k-preserved : goal.loop-k-preserved
 loop-k-preserved c =

@@ -5,6 +5,3 @@ use Rattle.print_rows.proofs.put_lines.Given as goal
 
 abbrev pub invariant-loop-k : goal.invariant-loop-k
 invariant-loop-k l = RowsSoFar (lines_from l.word l.width l.table l.rows) (room_from (line_room l.word l.width) l.end l.rows) l.initial.text l.text l.end l.rows l.at l.k
-
-abbrev pub decreases-loop-k : goal.decreases-loop-k
-decreases-loop-k l = l.k

@@ -17,9 +17,6 @@ loop-k-init c =
     rows_start (numbers_from c.args.table.now c.args.from c.args.count) (λ j. at - 11 * (c.args.count - j)) c.put_word-at.new.text at c.args.count
     (omega arith) (numbers_none c.args.table.now c.args.from c.args.count)
 
-pub overflow_sub-k : goal.overflow_sub-k
-overflow_sub-k c = omega (arith, c.loop-k-test.true)
-
 pub overflow_add-from : goal.overflow_add-from
 overflow_add-from c = omega (arith, c.requires.1, c.requires.2, c.loop-k.invariant.few)
 
@@ -32,9 +29,6 @@ put_field-at-requires c =
     let p = c.put_word-at.ensures in
     let n = field_short (0x20 ∷ []) c.cell.result c.cell.ensures.1 in
     (omega (arith, n, f.roomy, f.few, p.place, c.requires.3, c.loop-k-test.true), omega (arith, f.put.place, f.put.long, p.place, p.long, c.requires.4))
-
-pub loop-k-smaller : goal.loop-k-smaller
-loop-k-smaller c = omega (arith, c.loop-k-test.true)
 
 pub loop-k-preserved : goal.loop-k-preserved
 loop-k-preserved c =

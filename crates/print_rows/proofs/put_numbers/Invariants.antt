@@ -5,6 +5,3 @@ use Rattle.print_rows.proofs.put_numbers.Given as goal
 
 abbrev pub invariant-loop-k : goal.invariant-loop-k
 invariant-loop-k l = RowsSoFar (numbers_from l.table l.from l.count) (λ j. l.initial.at - 11 * (l.count - j)) l.initial.text l.text l.initial.at l.count l.at l.k
-
-abbrev pub decreases-loop-k : goal.decreases-loop-k
-decreases-loop-k l = l.k

@@ -8,10 +8,10 @@ use mathlib.Core.Path.{◌∙◌, sym}
 use native.Mathlib.Omega.{arith}
 use Rattle.print_value.proofs.print.Goals as goal
 
-pub returns-then-input-eq0 : goal.returns-then-input-eq0
-returns-then-input-eq0 c =
+pub returns-in_default : goal.returns-in_default
+returns-in_default c =
     let p = c.put_refusal.ensures in
-    (whole_put c.requires p (sym (printed_none c.args.input.now c.if-input-eq0.true)), omega (arith, p.place))
+    (whole_put c.requires p (sym (printed_none c.args.input.now (omega (arith, c.in_default.len_below)))), omega (arith, p.place))
 
 pub put_shown-requires : goal.put_shown-requires
 put_shown-requires c =
@@ -25,4 +25,4 @@ returns c =
     let e = payload_is c.args.input.now in
     let p = c.put_shown.ensures in
     let l = lines_shown (rw e (rest_bytes b)) c.show-shown.ensures (length-replicate {A = ℕ} 262226 0) in
-    (whole_put c.requires p (l ∙ rw e (sym (printed_some c.args.input.now c.if-input-eq0.false))), omega (arith, p.place))
+    (whole_put c.requires p (l ∙ rw e (sym (printed_some c.args.input.now (λ e. omega (arith, e, c.in-len1-up.len_at_least))))), omega (arith, p.place))

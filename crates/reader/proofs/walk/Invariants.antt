@@ -7,7 +7,7 @@ use lib.ListN.{length}
 use Rattle.reader.proofs.walk.Given as goal
 
 abbrev pub invariant-loop-events : goal.invariant-loop-events
-invariant-loop-events l = Walks l.doc l.room l.version (run (suc (length l.doc)) l.doc l.room l.version (started l.version l.next)) l.initial.names l.initial.qnames l.initial.events (tables l.names l.qnames l.events l.stack l.qstack l.frames) l.v
+invariant-loop-events l = Walks l.doc l.room l.version (run (suc (length l.doc)) l.doc l.room l.version (started l.version l.next)) l.initial.names l.initial.qnames l.initial.events (tables l.names l.qnames l.events l.stacks) l.v
 
 abbrev pub decreases-loop-events : goal.decreases-loop-events
 decreases-loop-events l = length l.doc - l.v.at

@@ -11,22 +11,13 @@ use Rattle.render.proofs.put_chunk.Goals as goal
 pub returns-then-p-eq0 : goal.returns-then-p-eq0
 returns-then-p-eq0 c = out_row _ _ _ _ _ _ c.if-p-eq0.true refl
 
-pub overflow_mul-end : goal.overflow_mul-end
-overflow_mul-end c = omega (arith, c.requires.0)
-
-pub overflow_add-end : goal.overflow_add-end
-overflow_add-end c = omega (arith, c.requires.0)
-
-pub slice_bounds-put_units-end : goal.slice_bounds-put_units-end
-slice_bounds-put_units-end c = omega (arith, c.requires.0)
-
 pub put_units-requires : goal.put_units-requires
 put_units-requires c =
     let d = c.args.doc.now in
     let a = c.args.place in
     let n = c.args.units in
     let u = units_long (take (a + 2 * n - a) (drop a d)) in
-    rw c.cursor_of.ensures (omega (arith, u.0, part_few d a (2 * n), c.requires.1))
+    omega (arith, u.0, part_few d a (2 * n), c.requires.1)
 
 pub returns : goal.returns
-returns c = row_as (out_in _ c.if-p-eq0.false (ap units_of (span c.args.place (2 * c.args.units) c.args.doc.now))) refl refl (row_hashed _ _ c.cursor_of.ensures c.put_units.ensures _ c.moved.ensures)
+returns c = row_as (out_in _ c.if-p-eq0.false (ap units_of (span c.args.place (2 * c.args.units) c.args.doc.now))) refl refl (row_hashed _ _ c.put_units.ensures _ c.moved.ensures)

@@ -5,38 +5,17 @@ use mathlib.Core.Path.{refl}
 use native.Mathlib.Omega.{arith}
 use Rattle.render.proofs.put_valued.Goals as goal
 
-pub overflow_sub-a : goal.overflow_sub-a
-overflow_sub-a c = (let q = c.requires.1.qname c.if-token-eq-QNAME.true in omega (arith, q.0, q.1))
-
-pub offset_bounds-marks-a : goal.offset_bounds-marks-a
-offset_bounds-marks-a c = (let q = c.requires.1.qname c.if-token-eq-QNAME.true in omega (arith, q.0, q.1))
-
-pub bounds-marks-a : goal.bounds-marks-a
-bounds-marks-a c = (let q = c.requires.1.qname c.if-token-eq-QNAME.true in omega (arith, q.0, q.1))
-
-pub put_one-requires : goal.put_one-requires
-put_one-requires c = omega (arith, c.requires.3)
-
 pub returns-then-token-eq-QNAME : goal.returns-then-token-eq-QNAME
-returns-then-token-eq-QNAME c = hashed_as (counted_qname c.args.doc.now c.args.marks.now c.args.token c.args.a c.args.b _ refl c.if-token-eq-QNAME.true) c.put_one.ensures
+returns-then-token-eq-QNAME c = hashed_as (counted_qname c.args.source.now.doc.now c.args.source.now.marks.now c.args.token c.args.a c.args.b _ refl c.if-token-eq-QNAME.true) c.put_one.ensures
 
 pub returns-then-token-eq0 : goal.returns-then-token-eq0
-returns-then-token-eq0 c = hashed_as (counted_zero c.args.doc.now c.args.marks.now c.args.token c.args.a c.args.b c.if-token-eq0.true) (hashed_none _ _)
-
-pub overflow_add-end : goal.overflow_add-end
-overflow_add-end c = let v = (c.requires.1.value (is_value_lem _ c.if-token-eq0.false c.requires.2) c.if-token-eq-QNAME.false) in omega (arith, v.0)
-
-pub overflow_cast-token : goal.overflow_cast-token
-overflow_cast-token c = omega (arith, c.requires.2)
-
-pub slice_bounds-put_payload-end : goal.slice_bounds-put_payload-end
-slice_bounds-put_payload-end c = let v = (c.requires.1.value (is_value_lem _ c.if-token-eq0.false c.requires.2) c.if-token-eq-QNAME.false) in omega (arith, v.0)
+returns-then-token-eq0 c = hashed_as (counted_zero c.args.source.now.doc.now c.args.source.now.marks.now c.args.token c.args.a c.args.b c.if-token-eq0.true) (hashed_none _ _)
 
 pub put_payload-requires : goal.put_payload-requires
 put_payload-requires c =
     let v = (c.requires.1.value (is_value_lem _ c.if-token-eq0.false c.requires.2) c.if-token-eq-QNAME.false) in
-    let f = part_few c.args.doc.now c.args.a c.args.b in
+    let f = part_few c.args.source.now.doc.now c.args.a c.args.b in
     (c.requires.0, rw span v.1, omega (arith, f, v.2), omega (arith, f, c.requires.3, room_value c.args.token c.args.b c.if-token-eq0.false c.requires.2))
 
 pub returns : goal.returns
-returns c = hashed_as (counted_value c.args.doc.now c.args.marks.now c.args.token c.args.a c.args.b c.if-token-eq-QNAME.false c.if-token-eq0.false c.requires.2) c.put_payload.ensures
+returns c = hashed_as (counted_value c.args.source.now.doc.now c.args.source.now.marks.now c.args.token c.args.a c.args.b c.if-token-eq-QNAME.false c.if-token-eq0.false c.requires.2) c.put_payload.ensures

@@ -1,10 +1,6 @@
 -- `render::render` meets its contract. The loop's invariant is `RowsDone`: what the arrays hold when k rows are done. Assumes nothing.
-use Prim.Native.Nat.{◌-◌}
 use Rattle.render.proofs.Loop.{RowsDone}
 use Rattle.render.proofs.render.Given as goal
 
 abbrev pub invariant-loop-k : goal.invariant-loop-k
 invariant-loop-k l = RowsDone l.doc l.names l.qnames l.events l.rows l.qrows l.count l.initial.syms l.initial.starts l.initial.hashes l.syms l.starts l.hashes l.k l.p
-
-abbrev pub decreases-loop-k : goal.decreases-loop-k
-decreases-loop-k l = l.count - l.k

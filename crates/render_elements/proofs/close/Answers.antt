@@ -6,8 +6,5 @@ use Rattle.render_elements.proofs.close.Goals as goal
 pub returns-then-p-eq0 : goal.returns-then-p-eq0
 returns-then-p-eq0 c = close_out _ _ _ c.if-p-eq0.true
 
-pub put_one-i-requires : goal.put_one-i-requires
-put_one-i-requires c = rw c.cursor_of.ensures c.requires
-
 pub returns : goal.returns
-returns c = row_as (out_in _ c.if-p-eq0.false end_mark) refl refl (row_hashed _ _ c.cursor_of.ensures c.put_one-i.ensures _ refl)
+returns c = row_as (out_in _ c.if-p-eq0.false end_mark) refl refl (row_hashed _ _ c.put_one-cursor.ensures _ refl)

@@ -1,8 +1,7 @@
 -- `rewriter::write_form` meets its contract. Assumes nothing.
 use Prim.Native.Nat.{ℕ}
-use Rattle.form.specs.Canonical.{canonical}
-use Rattle.machine.specs.Tables.{events_in}
-use Rattle.rewriter_contract.proofs.Forms.{form_long, room_small, form_written}
+use Rattle.rewriter.specs.Forms.{form_in}
+use Rattle.rewriter_contract.proofs.Forms.{form_written}
 use lib.ListN.{length-replicate}
 use mathlib.Core.Logic.{inl, inr}
 use native.Mathlib.Omega.{arith}
@@ -16,4 +15,4 @@ walk-requires c = let p = c.requires in (p.0, p.1, p.2, inr (let e = c.walk-size
 
 pub returns : goal.returns
 returns c =
-    let a = c.args in form_written (canonical a.read.version (events_in a.doc.now a.names.now a.qnames.now a.events.now a.read.names a.read.qnames a.read.events)) a.read.place a.out.now c.walk-size.ensures.past c.if-size-gt-LONGEST.false c.if-out-size.false c.walk.ensures
+    let a = c.args in form_written (form_in a.source.now a.events.now a.read.events a.read.version) a.read.place a.out.now c.walk-size.ensures.past c.if-size-gt-LONGEST.false c.if-out-size.false c.walk.ensures

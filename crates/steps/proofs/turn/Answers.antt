@@ -40,38 +40,38 @@ pub leave_document-requires : goal.leave_document-requires
 leave_document-requires c =
     omega (arith, c.requires.0, fine_at c.args.size c.args.v c.args.room c.in-Leave.is c.requires.1)
 
-pub returns-in-Stop : goal.returns-in-Stop
-returns-in-Stop c = rw c.in-Stop.is (record { names_are = refl; qnames_are = refl; events_are = refl; stack_is = refl; qstack_is = refl; frames_are = refl; view_is = refl })
+pub returns-in-End : goal.returns-in-End
+returns-in-End c = rw c.in-End.is (record { names_are = refl; qnames_are = refl; events_are = refl; stacks_are = refl; view_is = refl })
 
 pub returns-in-Name : goal.returns-in-Name
-returns-in-Name c = rw c.in-Name.is (record { names_are = c.define_name.ensures.0; qnames_are = refl; events_are = refl; stack_is = c.define_name.ensures.1; qstack_is = refl; frames_are = refl; view_is = c.define_name.ensures.2 })
+returns-in-Name c = rw c.in-Name.is (record { names_are = c.define_name.ensures.0; qnames_are = refl; events_are = refl; stacks_are = c.define_name.ensures.1; view_is = c.define_name.ensures.2 })
 
 pub returns-in-Qname : goal.returns-in-Qname
-returns-in-Qname c = rw c.in-Qname.is (record { names_are = refl; qnames_are = c.define_qname.ensures.0; events_are = refl; stack_is = refl; qstack_is = c.define_qname.ensures.1; frames_are = refl; view_is = c.define_qname.ensures.2 })
+returns-in-Qname c = rw c.in-Qname.is (record { names_are = refl; qnames_are = c.define_qname.ensures.0; events_are = refl; stacks_are = c.define_qname.ensures.1; view_is = c.define_qname.ensures.2 })
 
 pub returns-in-Skip : goal.returns-in-Skip
-returns-in-Skip c = rw c.in-Skip.is (record { names_are = refl; qnames_are = refl; events_are = refl; stack_is = refl; qstack_is = refl; frames_are = refl; view_is = c.skip.ensures })
+returns-in-Skip c = rw c.in-Skip.is (record { names_are = refl; qnames_are = refl; events_are = refl; stacks_are = refl; view_is = c.skip.ensures })
 
 pub returns-in-Flush : goal.returns-in-Flush
-returns-in-Flush c = rw c.in-Flush.is (record { names_are = refl; qnames_are = refl; events_are = refl; stack_is = refl; qstack_is = refl; frames_are = refl; view_is = c.past_flush.ensures })
+returns-in-Flush c = rw c.in-Flush.is (record { names_are = refl; qnames_are = refl; events_are = refl; stacks_are = refl; view_is = c.past_flush.ensures })
 
 pub returns-in-Event : goal.returns-in-Event
-returns-in-Event c = rw c.in-Event.is (record { names_are = refl; qnames_are = refl; events_are = c.add_event.ensures.0; stack_is = refl; qstack_is = refl; frames_are = refl; view_is = c.add_event.ensures.1 })
+returns-in-Event c = rw c.in-Event.is (record { names_are = refl; qnames_are = refl; events_are = c.add_event.ensures.0; stacks_are = refl; view_is = c.add_event.ensures.1 })
 
 pub returns-in-Refer : goal.returns-in-Refer
-returns-in-Refer c = rw c.in-Refer.is (record { names_are = refl; qnames_are = refl; events_are = c.add_reference.ensures.0; stack_is = refl; qstack_is = refl; frames_are = refl; view_is = c.add_reference.ensures.1 })
+returns-in-Refer c = rw c.in-Refer.is (record { names_are = refl; qnames_are = refl; events_are = c.add_reference.ensures.0; stacks_are = refl; view_is = c.add_reference.ensures.1 })
 
 pub returns-in-Open : goal.returns-in-Open
-returns-in-Open c = rw c.in-Open.is (record { names_are = refl; qnames_are = refl; events_are = c.add_element.ensures.0; stack_is = refl; qstack_is = refl; frames_are = refl; view_is = c.add_element.ensures.1 })
+returns-in-Open c = rw c.in-Open.is (record { names_are = refl; qnames_are = refl; events_are = c.add_element.ensures.0; stacks_are = refl; view_is = c.add_element.ensures.1 })
 
 pub returns-in-Pi : goal.returns-in-Pi
-returns-in-Pi c = rw c.in-Pi.is (record { names_are = refl; qnames_are = refl; events_are = c.add_pi.ensures.0; stack_is = refl; qstack_is = refl; frames_are = refl; view_is = c.add_pi.ensures.1 })
+returns-in-Pi c = rw c.in-Pi.is (record { names_are = refl; qnames_are = refl; events_are = c.add_pi.ensures.0; stacks_are = refl; view_is = c.add_pi.ensures.1 })
 
 pub returns-in-Close : goal.returns-in-Close
-returns-in-Close c = rw c.in-Close.is (record { names_are = refl; qnames_are = refl; events_are = c.close_element.ensures.0; stack_is = refl; qstack_is = refl; frames_are = refl; view_is = c.close_element.ensures.1 })
+returns-in-Close c = rw c.in-Close.is (record { names_are = refl; qnames_are = refl; events_are = c.close_element.ensures.0; stacks_are = refl; view_is = c.close_element.ensures.1 })
 
 pub returns-in-Nest : goal.returns-in-Nest
-returns-in-Nest c = rw c.in-Nest.is (record { names_are = refl; qnames_are = refl; events_are = c.enter_document.ensures.0; stack_is = refl; qstack_is = refl; frames_are = c.enter_document.ensures.1; view_is = c.enter_document.ensures.2 })
+returns-in-Nest c = rw c.in-Nest.is (record { names_are = refl; qnames_are = refl; events_are = c.enter_document.ensures.0; stacks_are = c.enter_document.ensures.1; view_is = c.enter_document.ensures.2 })
 
 pub returns-in-Leave : goal.returns-in-Leave
-returns-in-Leave c = rw c.in-Leave.is (record { names_are = refl; qnames_are = refl; events_are = c.leave_document.ensures.0; stack_is = refl; qstack_is = refl; frames_are = refl; view_is = c.leave_document.ensures.1 })
+returns-in-Leave c = rw c.in-Leave.is (record { names_are = refl; qnames_are = refl; events_are = c.leave_document.ensures.0; stacks_are = refl; view_is = c.leave_document.ensures.1 })

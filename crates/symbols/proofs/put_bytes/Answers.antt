@@ -1,23 +1,12 @@
-use Rattle.symbols.proofs.Going.{go_first, go_step, go_end, go_to}
-use Rattle.symbols.proofs.Texts.{bytes_step, bytes_end}
-use lib.ListN.{length-set}
-use mathlib.Core.Path.{refl}
-use native.Mathlib.Omega.{arith}
+-- `symbols::put_bytes` meets its contract. Assumes nothing.
+use Rattle.std.proofs.Common.{rules}
+use Prim.Native.Nat.{◌+◌, ◌*◌}
+use mathlib.Core.Path.{◌≡◌}
+use lib.ListN.{get_or, length-map}
+use Rattle.symbols.proofs.Texts.{byte_get}
 use Rattle.symbols.proofs.put_bytes.Goals as goal
 
-pub loop-k-init : goal.loop-k-init
-loop-k-init c = (omega arith, refl, go_to (omega arith) (go_first _ _ _))
-
-pub bounds-syms-at : goal.bounds-syms-at
-bounds-syms-at c = let g = c.loop-k.invariant in omega (arith, g.1, c.loop-k-test.true, c.requires)
-
-pub loop-k-preserved : goal.loop-k-preserved
-loop-k-preserved c =
-    let g = c.loop-k.invariant in
-    (omega arith, simp length-set g.1, go_to (omega arith) (go_step g.2 _ _ _ (bytes_step _ _ _ c.loop-k-test.true c.wide32.ensures.0) c.mix-h.ensures))
-
-pub shape_of-syms : goal.shape_of-syms
-shape_of-syms c = c.loop-k.invariant.1
-
 pub returns : goal.returns
-returns c = go_end c.loop-k.invariant.2 (bytes_end _ _ c.loop-k-test.false)
+returns c =
+    let s = c.args.src.now in
+    c.put_each.ensures _ (record { long = simp length-map; each = λ k x h e. let f : x ≡ 65542 + 8 * get_or s k 0 = search rules in byte_get s k x h f })

@@ -10,24 +10,12 @@ loop-i-init c =
     begun _ _ _ _ _ _ c.requires.2 (length-replicate {A = ℕ} 4096 c.args.n) (length-replicate {A = ℕ} 2048 1)
     (length-replicate {A = ℕ} 2048 1) (λ b h. get_or-replicate 4096 b c.args.n 0 h)
 
-pub overflow_cast-first : goal.overflow_cast-first
-overflow_cast-first c =
-    let w = c.loop-i in
-    let t = w.invariant.heads (get_or c.args.hashes.now (w.i - 1 + 1) 0 % 4096) (omega arith) in
-    omega (arith, t.within, c.requires.0)
-
 pub find-j-requires : goal.find-j-requires
 find-j-requires c =
     let t = moved c.loop-i.invariant c.loop-i-test.true in
     let i = c.loop-i.i - 1 in
     let l : i < c.args.n = omega (arith, t.in_range) in
-    (c.requires.0, c.requires.1, l, c.requires.3, t.chained, c.requires.3 i l, t.heads (get_or c.args.hashes.now (i + 1) 0 % 4096) (omega arith))
-
-pub overflow_cast-chain : goal.overflow_cast-chain
-overflow_cast-chain c =
-    let w = c.loop-i in
-    let t = w.invariant.heads (get_or c.args.hashes.now (w.i - 1 + 1) 0 % 4096) (omega arith) in
-    omega (arith, t.within, c.requires.0)
+    (l, t.chained, c.requires.3 i l, t.heads (get_or c.args.hashes.now (i + 1) 0 % 4096) (omega arith))
 
 pub after-l-requires : goal.after-l-requires
 after-l-requires c =

@@ -6,6 +6,3 @@ use Rattle.twins.proofs.link.Given as goal
 abbrev pub invariant-loop-i : goal.invariant-loop-i
 invariant-loop-i l =
     State (part_at l.syms l.starts) l.n l.i l.next l.slots l.chain l.later l.pairs
-
-abbrev pub decreases-loop-i : goal.decreases-loop-i
-decreases-loop-i l = l.i

@@ -1,13 +1,6 @@
 -- `value::extent_at` meets its contract: a function for each shape. Assumes nothing.
-use Prim.Native.Nat.{◌+◌}
-use Rattle.value.proofs.Fields.{lies_halved}
-use Rattle.value.specs.Fields.{extent_at, text_payload}
-use lib.ListN.{length}
-use mathlib.Core.Path.{◌∙◌, ap}
+use Rattle.value.specs.Fields.{extent_at}
 use Rattle.value.proofs.extent_at.Goals as goal
-
-pub text_payload-requires : goal.text_payload-requires
-text_payload-requires c = lies_halved (length c.args.doc.now) (c.args.at + 1) c.text_at.result c.text_at.ensures.1
 
 pub returns-in-Nothing : goal.returns-in-Nothing
 unfolding extent_at
@@ -19,7 +12,7 @@ returns-in-Fixed c = rw c.in-Fixed.is c.needed_at-in-Fixed.ensures
 
 pub returns-in-Text : goal.returns-in-Text
 unfolding extent_at
-returns-in-Text c = rw c.in-Text.is (c.text_payload.ensures ∙ ap text_payload c.text_at.ensures.0)
+returns-in-Text c = rw c.in-Text.is c.text_field.ensures
 
 pub returns-in-Blob : goal.returns-in-Blob
 unfolding extent_at

@@ -1,5 +1,0 @@
--- `rows::past_close` meets its contract. Assumes nothing.
-use Rattle.rows.proofs.past_close.Goals as goal
-
-pub returns : goal.returns
-returns c = rw c.past_event-w.ensures

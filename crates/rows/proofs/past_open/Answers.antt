@@ -1,5 +1,0 @@
--- `rows::past_open` meets its contract. Assumes nothing.
-use Rattle.rows.proofs.past_open.Goals as goal
-
-pub returns : goal.returns
-returns c = rw c.past_event-w.ensures

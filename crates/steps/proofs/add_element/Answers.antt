@@ -1,6 +1,0 @@
--- `steps::add_element` meets its contract. Assumes nothing.
-use mathlib.Core.Path.{◌∙◌}
-use Rattle.steps.proofs.add_element.Goals as goal
-
-pub returns : goal.returns
-returns c = (c.put_event.ensures ∙ rw c.qname_row.ensures, c.past_open.ensures)
