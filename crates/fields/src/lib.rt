@@ -90,6 +90,7 @@ fn byte_within(doc: &[u8], at: usize, first: u8, last: u8) -> Result<(), Refusal
 }
 
 // The header at a place: its version and the place after it.
+#[tactic(auto, using(sequences::proofs::Tests::tests), unfolding(crate::specs::Fields::header_at, crate::specs::Faults::byte_judged))]
 pub fn header_at(doc: &[u8], at: usize) -> Result<Header, Refusal>
     ensures { (result ≡ header_at doc.now at) × HeaderWithin (length doc.now) at result }
 {

@@ -69,9 +69,10 @@ pub fn put_hex(text: &mut [u8], end: usize, bytes: &[u8]) -> usize
 {
     let mut at = end;
     for b in bytes.iter().rev() {
-        let high = hexadecimal::hex_digit(b / 16);
-        let low = hexadecimal::hex_digit(b % 16);
-        at = put_word(text, at, &[high, low]);
+        at -= 1;
+        text[at] = hexadecimal::hex_digit(b % 16);
+        at -= 1;
+        text[at] = hexadecimal::hex_digit(b / 16);
     }
     at
 }

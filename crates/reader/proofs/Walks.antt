@@ -16,7 +16,7 @@ use Rattle.scan.specs.declared.Step.{Step}
 use Rattle.scan.specs.declared.Step.TheVariants as step
 use Rattle.machine.specs.Machine.{State, view, apply, Result, result, run, started, Reads}
 use Rattle.rows.specs.declared.Stacks.{Stacks}
-use Rattle.rows.specs.Tables.{Tables, tables, answer_at, Turned, Held, ReadingBegins}
+use Rattle.rows.specs.Tables.{Tables, tables, answer_at, Turned, TurnedIf, Held, ReadingBegins}
 use Rattle.steps.proofs.Keeps.{Stored, Kept, keep, same_lengths}
 use Rattle.machine.proofs.Goes.{Goes, Halts, passes, stepped, stopped}
 
@@ -38,6 +38,9 @@ goes (step.Leave next) h = tt
 -- a step that was found
 pub fine_ok : (size : ℕ) (v : View) (room : Room) {r : std.Result Step Refusal} {x : Step} → r ≡ Ok x → FineIf size v room r → Fine size v room x
 fine_ok size v room e f = subst (λ (y : std.Result Step Refusal). FineIf size v room y) e f
+
+pub turned_ok : {t t' : Tables} {v w : View} {r : std.Result Step Refusal} {x : Step} → r ≡ Ok x → TurnedIf t t' v r w → Turned t t' v x w
+turned_ok {t} {t'} {v} {w} e u = subst (λ (y : std.Result Step Refusal). TurnedIf t t' v y w) e u
 
 -- what holds at each turn of the loop
 pub record Walks (doc : List ℕ) (room : Room) (version : ℕ) (end : Result) (n₀ q₀ e₀ : List ℕ) (t : Tables) (v : View) : Type 0 where

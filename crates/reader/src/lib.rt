@@ -88,14 +88,23 @@ fn walk(
                 continue;
             }
         }
-        let step = match scan::step_at(table, doc, v, room) {
-            Ok(step) => step,
+        // Handed on as it was found: a step taken out of its Result would be copied, and told apart a second time.
+        let found = scan::step_at(table, doc, v, room);
+        match found {
             Err(r) => break answered(v, r.fault.number(), r.place, version),
-        };
-        if let Step::End { place } = step {
-            break answered(v, token::ACCEPTED, place, version);
+            Ok(Step::End { place }) => break answered(v, token::ACCEPTED, place, version),
+            Ok(_) => {}
         }
-        v = steps::turn(names, qnames, events, &mut stacks, v, room, doc.len(), step);
+        v = steps::turn(
+            names,
+            qnames,
+            events,
+            &mut stacks,
+            v,
+            room,
+            doc.len(),
+            found,
+        );
     }
 }
 

@@ -16,8 +16,6 @@ use Rattle.meaning.specs.Meaning.{Symbol, OpenAttribute, none_open, symbols_of, 
 use Rattle.meaning.specs.Codes.{codes_of}
 use Rattle.meaning.proofs.Codes.{codes_append}
 use Rattle.hash.specs.Hash.{hash_from, hash_of, seed}
-use Rattle.std.specs.Prelude.{Option, None}
-use Rattle.render_elements.specs.declared.Attribute.{Attribute}
 use Rattle.render_elements.specs.declared.Progress.{Progress}
 use Rattle.render.specs.Render.{Renderable, Rendered, room_for}
 use Rattle.marks.specs.Names.{class_in}
@@ -94,7 +92,7 @@ depth_few d t = go (eqb t 0xF8) (eqb t 0xF7)
 
 -- ---- an event and its row
 
-codes_open : (doc marks : List ℕ) (q : Option Attribute) (token a b : ℕ) → eqb token 0xF8 ≡ true → codes_by doc marks q token a b ≡ opening_in marks a ∷ []
+codes_open : (doc marks : List ℕ) (q token a b : ℕ) → eqb token 0xF8 ≡ true → codes_by doc marks q token a b ≡ opening_in marks a ∷ []
 unfolding codes_by
 codes_open doc marks q token a b e = rw e
 
@@ -116,7 +114,7 @@ module _ {doc names qnames events classes marks : List ℕ} {rows qrows count : 
   unfolding depth_after
   depth_is depth = rw (s.opens_is, s.closes_is, add-one)
 
-  emit_is : (depth : ℕ) (q : Option Attribute) → codes_of (class_in doc names rows) (cond (inside depth ev) (symbols_of (attribute_of q) ev) [])
+  emit_is : (depth q : ℕ) → codes_of (class_in doc names rows) (cond (inside depth ev) (symbols_of (attribute_of q) ev) [])
       ≡ row_by doc marks depth q e.token e.a e.b
   unfolding row_by codes_of
   emit_is zero q = rw s.opens_is (go (eqb e.token 0xF8) refl)
@@ -164,7 +162,7 @@ pub record RowsDone (doc names qnames events : List ℕ) (rows qrows count : ℕ
 
 module _ {doc names qnames events classes : List ℕ} {rows qrows count : ℕ} (d : Renderable doc names qnames events classes rows qrows count) where
   pub rows_first : (syms starts hashes : List ℕ) → RowsDone doc names qnames events rows qrows count syms starts hashes syms starts hashes 0
-      (record { cursor = record { at = 0; hash = seed }; records = 0; depth = 0; attribute = None })
+      (record { cursor = record { at = 0; hash = seed }; records = 0; depth = 0; attribute = 0 })
   unfolding codes_of hash_from
   rows_first syms starts hashes =
       record {

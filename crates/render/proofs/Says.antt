@@ -8,7 +8,7 @@ use mathlib.Core.List.{List, [], ◌∷◌, ◌++◌, map, append-nil}
 use native.Mathlib.Omega.{arith}
 use lib.Dec.{eqb, leb}
 use lib.ListN.{length, get_or, length-append, length-map, length-take}
-use borrow.Author.Tests.{eq-eqb, ne_eqb, leb-true, leb-false}
+use borrow.Author.Tests.{eqb-true, eq-eqb, ne_eqb, leb-true, leb-false}
 use Rattle.sequences.specs.Lists.{Bytes, part, units_of}
 use Rattle.sequences.specs.Arrays.{none, first}
 use Rattle.sequences.proofs.Units.{bytes_take, bytes_drop, units_long}
@@ -22,15 +22,12 @@ use Rattle.machine.specs.Facts.{text_tokens, qname_tokens, bare_tokens, EventFit
 use Rattle.machine.specs.Tables.{name_rows_in, qname_rows_in}
 use Rattle.machine.proofs.Facts.{every_one_of}
 use Rattle.plan.specs.Text.{text_of}
-use Rattle.meaning.specs.Meaning.{Symbol, OpenAttribute, counted, skipped, unit, attribute, qname, declares, closed, unless, shown_as, named_symbols, plain_symbols, symbols_of, attribute_after, opens, closes}
+use Rattle.meaning.specs.Meaning.{Symbol, OpenAttribute, none_open, counted, skipped, unit, attribute, qname, declares, closed, unless, shown_as, named_symbols, plain_symbols, symbols_of, attribute_after, opens, closes}
 use Rattle.meaning.specs.Codes.{mark, both, codes_of}
 use Rattle.meaning.proofs.Codes.{codes_append}
 use Rattle.render.specs.Render.{Renderable}
 use Rattle.marks.specs.Names.{class_in, uri_at, prefix_at, local_at, pair_of, Named, declares_at}
-use Rattle.std.specs.Prelude.{Option as Maybe, None, Some}
-use Rattle.render_elements.specs.declared.Attribute.{Attribute}
-use Rattle.render_elements.specs.declared.Attribute.TheVariants.{Counted, Skipped}
-use Rattle.render_elements.specs.Codes.{attribute_of, is_skipped, is_value, close_by, counted_by, value_by, codes_by, row_by, attribute_by, room_by, RowFits}
+use Rattle.render_elements.specs.Codes.{attribute_of, is_value, close_by, counted_by, value_by, codes_by, row_by, attribute_by, room_by, RowFits}
 use Rattle.symbols.specs.Values.{value_codes}
 use Rattle.marks.specs.Marks.{opening_in, declared_in, MarksOf}
 use Rattle.render_elements.proofs.Rows.{close_few, is_value_lem}
@@ -55,19 +52,26 @@ module _ (cls : List ℕ → ℕ) where
   codes_value token p none = append-nil (mark 5 token ∷ map (mark 6) p)
   codes_value token p (some us) = codes_units us
 
-  codes_closed : (q : Maybe Attribute) → codes_of cls (closed (attribute_of q)) ≡ close_by q
+  codes_closed : (q : ℕ) → codes_of cls (closed (attribute_of q)) ≡ close_by q
   unfolding codes_of
-  codes_closed None = refl
-  codes_closed (Some Counted) = refl
-  codes_closed (Some Skipped) = refl
+  codes_closed q = go (eqb q 1) (eqb q 2)
+    where
+      go : (s t : Bool) → codes_of cls (closed (cond s counted (cond t skipped none_open))) ≡ cond s (mark 4 0 ∷ []) []
+      go true t = refl
+      go false true = refl
+      go false false = refl
 
-  codes_unless : (q : Maybe Attribute) (l : List Symbol) → codes_of cls (unless (attribute_of q) l) ≡ cond (is_skipped q) [] (codes_of cls l)
+  codes_unless : (q : ℕ) (l : List Symbol) → codes_of cls (unless (attribute_of q) l) ≡ cond (eqb q 2) [] (codes_of cls l)
   unfolding codes_of
-  codes_unless None l = refl
-  codes_unless (Some Counted) l = refl
-  codes_unless (Some Skipped) l = refl
+  codes_unless q l = go (eqb q 1) (eqb q 2) refl refl
+    where
+      go : (s t : Bool) → eqb q 1 ≡ s → eqb q 2 ≡ t → codes_of cls (unless (cond s counted (cond t skipped none_open)) l) ≡ cond t [] (codes_of cls l)
+      go true true e f = absurd (let a = eqb-true q 1 e in let b = eqb-true q 2 f in let z : ⊥ = omega arith in z)
+      go true false e f = refl
+      go false true e f = refl
+      go false false e f = refl
 
-  codes_attribute : (q : Maybe Attribute) (x : ℕ) (d t : Bool) (u l : List ℕ) → d ≡ t → (d ≡ false → mark 1 (both cls u l) ≡ x)
+  codes_attribute : (q x : ℕ) (d t : Bool) (u l : List ℕ) → d ≡ t → (d ≡ false → mark 1 (both cls u l) ≡ x)
       → codes_of cls (closed (attribute_of q) ++ cond d [] (attribute u l ∷ [])) ≡ close_by q ++ cond t [] (x ∷ [])
   unfolding codes_of
   codes_attribute q x d t u l i e =
@@ -91,10 +95,10 @@ module _ (doc marks : List ℕ) (bytes : Bytes doc) where
       let l : length us ≤ 6 + 5 * length (part doc a b) = text_room_lem token (part doc a b) us (bytes_take b (bytes_drop a bytes)) e in
       omega (arith, part_long a b)
 
-  codes_few : (q : Maybe Attribute) (token a b : ℕ) → length (codes_by doc marks q token a b) ≤ room_by token b
+  codes_few : (q token a b : ℕ) → length (codes_by doc marks q token a b) ≤ room_by token b
   unfolding codes_by value_by counted_by
   codes_few q token a b =
-      go (eqb token 0xF8) (eqb token 0xF6) (eqb token 0xF5) (eqb token 0xF7) (eqb token 0xF2) (is_skipped q) (eqb token 0x8C) (is_value token)
+      go (eqb token 0xF8) (eqb token 0xF6) (eqb token 0xF5) (eqb token 0xF7) (eqb token 0xF2) (eqb q 2) (eqb token 0x8C) (is_value token)
     where
       two : (n : ℕ) → length (close_by q ++ cond (declared_in marks a) [] ((opening_in marks a + 1) ∷ [])) ≤ 2 + n
       two n = simp length-append (omega (arith, close_few q, one (declared_in marks a)))
@@ -123,7 +127,7 @@ module _ (doc marks : List ℕ) (bytes : Bytes doc) where
       go false false false false false false false false = omega arith
 
   -- a row adds no more than its room
-  pub row_few : (depth : ℕ) (q : Maybe Attribute) (token a b : ℕ) → length (row_by doc marks depth q token a b) ≤ room_by token b
+  pub row_few : (depth q token a b : ℕ) → length (row_by doc marks depth q token a b) ≤ room_by token b
   unfolding row_by
   row_few depth q token a b = go (eqb token 0xF8) (eqb depth 0)
     where
@@ -137,9 +141,9 @@ module _ (doc marks : List ℕ) (bytes : Bytes doc) where
 module _ {doc names qnames events classes marks : List ℕ} {rows qrows count : ℕ} (d : Renderable doc names qnames events classes rows qrows count)
     (M : MarksOf doc names qnames classes rows qrows marks) where
   pub record Says (e : EventRow) (ev : Event) : Type 0 where
-    pub codes : (q : Maybe Attribute) → codes_of (class_in doc names rows) (symbols_of (attribute_of q) ev)
+    pub codes : (q : ℕ) → codes_of (class_in doc names rows) (symbols_of (attribute_of q) ev)
         ≡ codes_by doc marks q e.token e.a e.b
-    pub after : (q : Maybe Attribute) → attribute_after (attribute_of q) ev ≡ attribute_of (attribute_by marks q e.token e.a)
+    pub after : (q : ℕ) → attribute_after (attribute_of q) ev ≡ attribute_of (attribute_by marks q e.token e.a)
     pub opens_is : opens ev ≡ eqb e.token 0xF8
     pub closes_is : closes ev ≡ eqb e.token 0xF7
     pub fits : RowFits doc e.token e.a e.b
@@ -167,7 +171,7 @@ module _ {doc names qnames events classes marks : List ℕ} {rows qrows count : 
   unfolding codes_of codes_by value_by counted_by attribute_by
   quiet x p a b ev z o =
       record {
-        codes = λ q. rw (z.adds (attribute_of q), o.not_F8, o.not_F6, o.not_F5, o.not_F7, o.not_F2, o.not_8_c, o.not_value) (skip (is_skipped q));
+        codes = λ q. rw (z.adds (attribute_of q), o.not_F8, o.not_F6, o.not_F5, o.not_F7, o.not_F2, o.not_8_c, o.not_value) (skip (eqb q 2));
         after = λ q. rw (o.not_F6, o.not_F5) (z.keeps (attribute_of q));
         opens_is = z.opens_not ∙ sym o.not_F8;
         closes_is = z.closes_not ∙ sym o.not_F7;
@@ -296,7 +300,7 @@ module _ {doc names qnames events classes marks : List ℕ} {rows qrows count : 
           fits = referred 0xF6 refl (λ e f. no_way e);
         }
       where
-        turned : (t : Bool) → cond t skipped counted ≡ attribute_of (cond t (Some Skipped) (Some Counted))
+        turned : (t : Bool) → cond t skipped counted ≡ attribute_of (cond t 2 1)
         turned true = refl
         turned false = refl
 
@@ -308,7 +312,7 @@ module _ {doc names qnames events classes marks : List ℕ} {rows qrows count : 
     says_qname =
         record {
           codes = λ q. codes_unless (class_in doc names rows) q (qname (uri_at doc names qnames rows a) (local_at doc names qnames rows a) ∷ [])
-              ∙ ap (λ (x : ℕ). cond (is_skipped q) [] (x ∷ [])) (ap (mark 2) (pair_both n) ∙ sym (mark_qname M a from to _ refl));
+              ∙ ap (λ (x : ℕ). cond (eqb q 2) [] (x ∷ [])) (ap (mark 2) (pair_both n) ∙ sym (mark_qname M a from to _ refl));
           after = λ q. refl;
           opens_is = refl;
           closes_is = refl;
@@ -330,7 +334,7 @@ module _ {doc names qnames events classes marks : List ℕ} {rows qrows count : 
         let v : is_value k ≡ true = is_value_lem k (λ e. let q : ⊥ = omega (arith, low.0) in q) low.1 in
         record {
           codes = λ q. codes_unless (class_in doc names rows) q (shown_as k (part doc a s) (text_of k (part doc a s)))
-              ∙ rw (f8, f6, f5, f7, f2, no, v) (ap (λ (l : List ℕ). cond (is_skipped q) [] l) (codes_value (class_in doc names rows) k (part doc a s) (text_of k (part doc a s))));
+              ∙ rw (f8, f6, f5, f7, f2, no, v) (ap (λ (l : List ℕ). cond (eqb q 2) [] l) (codes_value (class_in doc names rows) k (part doc a s) (text_of k (part doc a s))));
           after = λ q. rw (f6, f5);
           opens_is = sym f8;
           closes_is = sym f7;

@@ -6,13 +6,13 @@ ghost use Rattle.std.specs.Prelude.{◌≡◌, ◌+◌, ◌-◌, ◌*◌, ◌≤
 ghost use Rattle.sequences.specs.Lists.{part, units_of};
 ghost use Rattle.base64_text.specs.Letters.{Alphabet};
 ghost use Rattle.symbols.specs.Store.{PutHashed};
-ghost use Rattle.render_elements.specs.Codes.{is_skipped, values_end, counted_by, value_by, unless_out, row_by, depth_by, attribute_by, room_by, RowFits};
+ghost use Rattle.render_elements.specs.Codes.{values_end, counted_by, value_by, unless_out, row_by, depth_by, attribute_by, room_by, RowFits};
 ghost use Rattle.render_elements.specs.Effects.{RowPut, RowDone};
 ghost use Rattle.render.specs.Render.{Renderable, Rendered, room_for};
 ghost use Rattle.token.specs.Tokens.{ELEMENT_TOKEN, ENDELEMENT_TOKEN, event_width, event_rows};
 ghost use Rattle.twins.specs.Search.{part_bounds};
 
-use render_elements::{Attribute, Progress};
+use render_elements::Progress;
 use symbols::Cursor;
 
 // The tokens of values are below this, and no other token is.
@@ -78,16 +78,6 @@ fn put_valued(
     symbols::put_payload(source.alphabet, token as u8, &source.doc[a..end], syms, i)
 }
 
-fn is_skipped(attribute: Option<Attribute>) -> bool
-    ensures { result ≡ is_skipped attribute }
-{
-    match attribute {
-        Some(Attribute::Skipped) => true,
-        Some(Attribute::Counted) => false,
-        None => false,
-    }
-}
-
 // A value, within a record and outside of a skipped attribute.
 fn put_value(
     source: &Source,
@@ -104,7 +94,7 @@ fn put_value(
     if p.depth == 0 {
         return p;
     }
-    if is_skipped(p.attribute) {
+    if p.attribute == render_elements::SKIPPED_OPEN {
         return p;
     }
     render_elements::moved(p, put_valued(source, syms, p.cursor, token, a, b))
@@ -203,7 +193,7 @@ pub fn render(
         },
         records: 0,
         depth: 0,
-        attribute: None,
+        attribute: render_elements::NONE_OPEN,
     };
     for k in 0..count {
         let token = slices::cell(events, token::EVENT_WIDTH * k);

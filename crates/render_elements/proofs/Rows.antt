@@ -12,12 +12,9 @@ use Rattle.plan.specs.Text.{text_of}
 use Rattle.meaning.specs.Codes.{mark}
 use Rattle.hash.specs.Hash.{hash_from, seed}
 use Rattle.symbols.specs.declared.Cursor.{Cursor}
-use Rattle.std.specs.Prelude.{Option, None, Some}
-use Rattle.render_elements.specs.declared.Attribute.{Attribute}
-use Rattle.render_elements.specs.declared.Attribute.TheVariants.{Counted, Skipped}
 use Rattle.render_elements.specs.declared.Progress.{Progress}
 use Rattle.symbols.specs.Store.{PutHashed}
-use Rattle.render_elements.specs.Codes.{is_skipped, is_value, close_by, counted_by, value_by, codes_by, unless_out, row_by, depth_by, attribute_by, room_by}
+use Rattle.render_elements.specs.Codes.{is_value, close_by, counted_by, value_by, codes_by, unless_out, row_by, depth_by, attribute_by, room_by}
 use Rattle.symbols.specs.Values.{value_codes}
 use Rattle.marks.specs.Marks.{opening_in, declared_in}
 use Rattle.render_elements.specs.Effects.{Begun, RowPut, RowDone}
@@ -36,10 +33,12 @@ room_value token b h l =
 pub room_chunk : (token b : ℕ) → token ≡ 0xF2 → room_by token b ≡ 2 + b
 room_chunk token b e = rw e
 
-pub close_few : (q : Option Attribute) → length (close_by q) ≤ 1
-close_few None = omega arith
-close_few (Some Counted) = omega arith
-close_few (Some Skipped) = omega arith
+pub close_few : (q : ℕ) → length (close_by q) ≤ 1
+close_few q = go (eqb q 1)
+  where
+    go : (t : Bool) → length (cond t (mark 4 0 ∷ []) []) ≤ 1
+    go true = omega arith
+    go false = omega arith
 
 pub part_few : (doc : List ℕ) (a n : ℕ) → length (take (a + n - a) (drop a doc)) ≤ n
 part_few doc a n = simp length-take (omega arith)
@@ -49,14 +48,14 @@ span a n l = let e : a + n - a ≡ n = omega arith in rw e
 
 -- ---- the walk's numbers after a row
 
-pub row_as : {row row' : List ℕ} {q q' : Option Attribute} {d d' : ℕ} {l l' : List ℕ} {p r : Progress} → row ≡ row' → q ≡ q' → d ≡ d' → RowPut row q d l p l' r → RowPut row' q' d' l p l' r
+pub row_as : {row row' : List ℕ} {q q' d d' : ℕ} {l l' : List ℕ} {p r : Progress} → row ≡ row' → q ≡ q' → d ≡ d' → RowPut row q d l p l' r → RowPut row' q' d' l p l' r
 row_as e f g w = rw (← e, ← f, ← g) w
 
-pub row_none : (l : List ℕ) (p r : Progress) (q : Option Attribute) (d : ℕ) → r ≡ record { cursor = p.cursor; records = p.records; depth = d; attribute = q } → RowPut [] q d l p l r
+pub row_none : (l : List ℕ) (p r : Progress) (q d : ℕ) → r ≡ record { cursor = p.cursor; records = p.records; depth = d; attribute = q } → RowPut [] q d l p l r
 unfolding hash_from
 row_none l p r q d e = rw e (record { put = put_none l p.cursor.at; hash_is = refl; records_are = refl; depth_is = refl; attribute_is = refl })
 
-pub row_hashed : {l l' xs : List ℕ} {p : Progress} {i : Cursor} (q : Option Attribute) (d : ℕ) → PutHashed l p.cursor xs l' i → (r : Progress)
+pub row_hashed : {l l' xs : List ℕ} {p : Progress} {i : Cursor} (q d : ℕ) → PutHashed l p.cursor xs l' i → (r : Progress)
     → r ≡ record { cursor = i; records = p.records; depth = d; attribute = q } → RowPut xs q d l p l' r
 row_hashed q d k r f = rw f (record { put = k.put; hash_is = k.hash_is; records_are = refl; depth_is = refl; attribute_is = refl })
 
@@ -69,7 +68,7 @@ pub out_in : (depth : ℕ) {l l' : List ℕ} → (depth ≡ 0 → ⊥) → l ≡
 out_in depth h e = rw (ne_eqb depth 0 h) e
 
 -- outside of a record nothing is written
-pub out_row : (l : List ℕ) (p r : Progress) (row : List ℕ) (q : Option Attribute) (d : ℕ) → p.depth ≡ 0 → r ≡ record { cursor = p.cursor; records = p.records; depth = d; attribute = q }
+pub out_row : (l : List ℕ) (p r : Progress) (row : List ℕ) (q d : ℕ) → p.depth ≡ 0 → r ≡ record { cursor = p.cursor; records = p.records; depth = d; attribute = q }
     → RowPut (unless_out p.depth row) q d l p l r
 out_row l p r row q d e f = row_as (out_none p.depth row e) refl refl (row_none l p r q d f)
 
@@ -93,24 +92,17 @@ pub opened_is : (marks : List ℕ) (row x : ℕ) → x ≡ get_or marks (row - 1
 unfolding opening_in
 opened_is marks row x e = rw e
 
-pub close_counted : {q : Option Attribute} {x : Attribute} → q ≡ Some x → x ≡ Counted → 65540 ∷ [] ≡ close_by q
+pub close_one : (q : ℕ) → q ≡ 1 → 65540 ∷ [] ≡ close_by q
 unfolding mark
-close_counted e f = rw (e, f)
+close_one q e = rw e
 
-pub close_skipped : {q : Option Attribute} {x : Attribute} → q ≡ Some x → x ≡ Skipped → [] ≡ close_by q
-close_skipped e f = rw (e, f)
-
-pub close_none : {q : Option Attribute} → q ≡ None → [] ≡ close_by q
-close_none e = rw e
+pub close_none : (q : ℕ) → (q ≡ 1 → ⊥) → [] ≡ close_by q
+close_none q h = rw (ne_eqb q 1 h)
 
 module _ (marks : List ℕ) (row m : ℕ) (e : m ≡ get_or marks (row - 1) 0) where
-  pub declared_some : (q : Attribute) → q ≡ cond (leb 2147483648 m) Skipped Counted → Some q ≡ cond (declared_in marks row) (Some Skipped) (Some Counted)
+  pub declared_number : (r : ℕ) → r ≡ cond (leb 2147483648 m) 2 1 → r ≡ cond (declared_in marks row) 2 1
   unfolding declared_in
-  declared_some q f = rw (f, ← e) (go (leb 2147483648 m))
-    where
-      go : (t : Bool) → Some (cond t Skipped Counted) ≡ cond t (Some Skipped) (Some Counted)
-      go true = refl
-      go false = refl
+  declared_number r f = f ∙ rw (← e)
 
   pub declared_bare : (l : List ℕ) → 2147483648 ≤ m → l ≡ l ++ cond (declared_in marks row) [] ((opening_in marks row + 1) ∷ [])
   unfolding declared_in
@@ -136,20 +128,20 @@ module _ (doc marks : List ℕ) (token a b : ℕ) where
   unfolding counted_by
   counted_value g f l = rw span (rw (ne_eqb token 0x8C g, ne_eqb token 0 f, lt-ltb token 0xA0 l))
 
-  module _ (q : Option Attribute) where
-    pub value_skipped : is_skipped q ≡ true → [] ≡ value_by doc marks q token a b
+  module _ (q : ℕ) where
+    pub value_skipped : q ≡ 2 → [] ≡ value_by doc marks q token a b
     unfolding value_by
-    value_skipped e = rw e
+    value_skipped e = rw (eq-eqb q 2 e)
 
-    pub value_counted : is_skipped q ≡ false → counted_by doc marks token a b ≡ value_by doc marks q token a b
+    pub value_counted : (q ≡ 2 → ⊥) → counted_by doc marks token a b ≡ value_by doc marks q token a b
     unfolding value_by
-    value_counted e = rw e
+    value_counted h = rw (ne_eqb q 2 h)
 
     value_none : (token ≡ 0x8C → ⊥) → 0xA0 ≤ token → value_by doc marks q token a b ≡ []
     unfolding value_by counted_by
     value_none g l =
         let z : token ≡ 0 → ⊥ = λ e. let x : ⊥ = omega arith in x in
-        rw (ne_eqb token 0x8C g, ne_eqb token 0 z, le-ltb token 0xA0 l) (go (is_skipped q))
+        rw (ne_eqb token 0x8C g, ne_eqb token 0 z, le-ltb token 0xA0 l) (go (eqb q 2))
       where
         go : (t : Bool) → cond {A = List ℕ} t [] [] ≡ []
         go true = refl
@@ -157,7 +149,7 @@ module _ (doc marks : List ℕ) (token a b : ℕ) where
 
 -- ---- rows by their token
 
-module _ (doc marks : List ℕ) (depth : ℕ) (q : Option Attribute) (token a b : ℕ) where
+module _ (doc marks : List ℕ) (depth q token a b : ℕ) where
   pub row_open : token ≡ 0xF8 → opening_in marks a ∷ [] ≡ row_by doc marks depth q token a b
   unfolding row_by
   row_open e = rw e
@@ -194,12 +186,12 @@ module _ (doc marks : List ℕ) (depth : ℕ) (q : Option Attribute) (token a b 
       let g : token ≡ 0x8C → ⊥ = λ e. let x : ⊥ = omega arith in x in
       out_nothing depth ∙ ap (unless_out depth) (sym (value_none doc marks token a b q g l)) ∙ row_other h0 h1 h2 h3 h4
 
-module _ (marks : List ℕ) (q : Option Attribute) (token a : ℕ) where
-  pub attribute_F6 : token ≡ 0xF6 → cond (declared_in marks a) (Some Skipped) (Some Counted) ≡ attribute_by marks q token a
+module _ (marks : List ℕ) (q token a : ℕ) where
+  pub attribute_F6 : token ≡ 0xF6 → cond (declared_in marks a) 2 1 ≡ attribute_by marks q token a
   unfolding attribute_by
   attribute_F6 e = rw e
 
-  pub attribute_F5 : token ≡ 0xF5 → None ≡ attribute_by marks q token a
+  pub attribute_F5 : token ≡ 0xF5 → 0 ≡ attribute_by marks q token a
   unfolding attribute_by
   attribute_F5 e = rw e
 

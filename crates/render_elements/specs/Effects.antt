@@ -1,8 +1,7 @@
 -- Serves the code. What a row of events does to the walk's numbers and to the arrays.
-use Rattle.std.specs.Prelude.{ℕ, ◌≡◌, cond, List, [], ◌∷◌, eqb, Option}
+use Rattle.std.specs.Prelude.{ℕ, ◌≡◌, cond, List, [], ◌∷◌, eqb}
 use Rattle.hash.specs.Hash.{hash_from, seed}
 use Rattle.symbols.specs.declared.Cursor.{Cursor}
-use Rattle.render_elements.specs.declared.Attribute.{Attribute}
 use Rattle.render_elements.specs.declared.Progress.{Progress}
 use Rattle.symbols.specs.Store.{NumbersPut}
 use Rattle.render_elements.specs.Codes.{row_by, begins_by, depth_by, attribute_by}
@@ -20,7 +19,7 @@ pub record Begun (starts hashes : List ℕ) (p : Progress) (starts' hashes' : Li
   pub attribute_is : r.attribute ≡ p.attribute
 
 -- the numbers of a row are written; the open attribute and the elements open after it
-pub record RowPut (row : List ℕ) (attribute : Option Attribute) (depth : ℕ) (before : List ℕ) (p : Progress) (after : List ℕ) (r : Progress) : Type 0 where
+pub record RowPut (row : List ℕ) (attribute depth : ℕ) (before : List ℕ) (p : Progress) (after : List ℕ) (r : Progress) : Type 0 where
   pub put : NumbersPut before p.cursor.at row after r.cursor.at
   pub hash_is : r.cursor.hash ≡ hash_from p.cursor.hash row
   pub records_are : r.records ≡ p.records

@@ -5,19 +5,19 @@ ghost use Rattle.std.specs.Prelude.{◌≡◌, cond, [], ◌∷◌, ◌++◌, �
 ghost use Rattle.meaning.specs.Codes.{mark, attribute_kind, end_kind};
 ghost use Rattle.symbols.specs.Store.{PutHashed};
 ghost use Rattle.marks.specs.Marks.{opening_in, declared_in, declaring};
-ghost use Rattle.render_elements.specs.Codes.{close_by, unless_out};
+ghost use Rattle.render_elements.specs.Codes.{nothing_open, counted_open, skipped_open, close_by, unless_out};
 ghost use Rattle.render_elements.specs.Effects.{moved_to, Begun, RowPut};
 ghost use Rattle.token.specs.Tokens.{qname_rows, event_rows};
 ghost use Rattle.twins.specs.Search.{part_bounds};
 
 use symbols::Cursor;
 
-// An open attribute: one that counts, or one that does not.
-#[derive(Clone, Copy)]
-pub enum Attribute {
-    Counted,
-    Skipped,
-}
+// The open attribute: none, one that counts, one that does not.
+pub const NONE_OPEN: usize = 0;
+
+pub const COUNTED_OPEN: usize = 1;
+
+pub const SKIPPED_OPEN: usize = 2;
 
 // ---- rows
 
@@ -28,7 +28,8 @@ pub struct Progress {
     pub cursor: Cursor,
     pub records: usize,
     pub depth: usize,
-    pub attribute: Option<Attribute>,
+    // A number and not an enum: `put_attribute` and its like take any number, as they did. Above 2 none is open.
+    pub attribute: usize,
 }
 
 // After numbers were written.
@@ -95,25 +96,25 @@ pub fn close(syms: &mut [u32], p: Progress) -> Progress
 }
 
 // An open attribute that counts is closed.
-fn put_close(syms: &mut [u32], i: Cursor, attribute: Option<Attribute>) -> Cursor
+#[tactic(auto, using(crate::proofs::Rows::close_one, crate::proofs::Rows::close_none), unfolding(hash::specs::Hash::hash_from))]
+fn put_close(syms: &mut [u32], i: Cursor, attribute: usize) -> Cursor
     requires { i.at < length syms.old }
     ensures { PutHashed syms.old i (close_by attribute) syms.new result }
 {
-    match attribute {
-        Some(Attribute::Counted) => symbols::put_one(syms, i, symbols::CLOSING_MARK),
-        Some(Attribute::Skipped) => i,
-        None => i,
+    if attribute == COUNTED_OPEN {
+        return symbols::put_one(syms, i, symbols::CLOSING_MARK);
     }
+    i
 }
 
 // The attribute that a mark opens: one that declares a prefix does not count.
-fn counts(mark: u32) -> Attribute
-    ensures { result ≡ cond (leb declaring mark) Attribute.Skipped Attribute.Counted }
+fn counts(mark: u32) -> usize
+    ensures { result ≡ cond (leb declaring mark) skipped_open counted_open }
 {
     if marks::DECLARING <= mark {
-        Attribute::Skipped
+        SKIPPED_OPEN
     } else {
-        Attribute::Counted
+        COUNTED_OPEN
     }
 }
 
@@ -126,11 +127,11 @@ pub fn put_attribute(
 ) -> Progress
     requires { (1 ≤ row) × (row ≤ qname_rows) × (p.cursor.at + 1 < length syms.old) }
     ensures { RowPut (unless_out p.depth (close_by p.attribute ++ cond (declared_in marks.now row) [] ((opening_in marks.now row + attribute_kind) ∷ [])))
-        (cond (declared_in marks.now row) (Some Attribute.Skipped) (Some Attribute.Counted)) p.depth syms.old p syms.new result }
+        (cond (declared_in marks.now row) skipped_open counted_open) p.depth syms.old p syms.new result }
 {
     let mark = marks[row - 1];
     let next = Progress {
-        attribute: Some(counts(mark)),
+        attribute: counts(mark),
         ..p
     };
     if p.depth == 0 {
@@ -149,10 +150,10 @@ pub fn put_attribute(
 // ENDATTRIBUTES.
 pub fn end_attributes(syms: &mut [u32], p: Progress) -> Progress
     requires { p.cursor.at < length syms.old }
-    ensures { RowPut (unless_out p.depth (close_by p.attribute)) None p.depth syms.old p syms.new result }
+    ensures { RowPut (unless_out p.depth (close_by p.attribute)) nothing_open p.depth syms.old p syms.new result }
 {
     let closed = Progress {
-        attribute: None,
+        attribute: NONE_OPEN,
         ..p
     };
     if p.depth == 0 {

@@ -1,5 +1,5 @@
 -- Serves the code. What each step does to the code's tables and to its view, number by number.
-use Rattle.std.specs.Prelude.{ℕ, zero, suc, ◌+◌, ◌-◌, ◌*◌, ◌≤◌, ◌<◌, ◌≡◌, List, length, get_or, set}
+use Rattle.std.specs.Prelude.{ℕ, zero, suc, ◌+◌, ◌-◌, ◌*◌, ◌≤◌, ◌<◌, ◌≡◌, List, length, get_or, set, Result, Ok, Err}
 use Rattle.modes.specs.Modes.{after_metadata, after_misc}
 use Rattle.modes.specs.declared.Mode.{Mode}
 use Rattle.modes.specs.declared.Mode.TheVariants.{Content, Tag, First}
@@ -9,6 +9,7 @@ use Rattle.rows.specs.declared.Stacks.{Stacks}
 use Rattle.scan.specs.declared.Room.{Room}
 use Rattle.scan.specs.declared.Step.{Step}
 use Rattle.scan.specs.declared.Step.TheVariants as step
+use Rattle.token.specs.declared.Refusal.{Refusal}
 use Rattle.machine.specs.declared.Answer.{Answer}
 use Rattle.token.specs.Tokens.{ELEMENT_TOKEN, PI_TOKEN, ENDELEMENT_TOKEN, NEST_TOKEN, ENDNEST_TOKEN, name_width, qname_width, event_width, longest, name_rows, qname_rows, event_rows, open_elements, nested_documents}
 
@@ -280,6 +281,11 @@ pub record Turned (t t' : Tables) (v : View) (s : Step) (r : View) : Type 0 wher
   pub events_are : t'.events ≡ (tables_after t v s).events
   pub stacks_are : t'.stacks ≡ (tables_after t v s).stacks
   pub view_is : r ≡ view_after t v s
+
+-- what was found: a refusal leaves the tables, the stacks and the view as they were
+abbrev pub TurnedIf : Tables → Tables → View → Result Step Refusal → View → Type 0
+TurnedIf t t' v (Ok x) r = Turned t t' v x r
+TurnedIf t t' v (Err f) r = (t' ≡ t) × (r ≡ v)
 
 -- what holds of the view and the tables before each step: what is read and written lies inside them
 pub record Held (size : ℕ) (room : Room) (t : Tables) (v : View) : Type 0 where

@@ -25,7 +25,9 @@ pub fn due(v: View, room: Room, on: Step) -> Result<Step, Refusal>
     }
 }
 
-// A token with a text, after which `mode` holds.
+// A token with a text, after which `mode` holds. Nine arms of `class_step` call it: called and not inlined, it makes every token pay
+// for the view and the room in memory.
+#[inline(always)]
 #[tactic(auto, using(sequences::proofs::Tests::tests), unfolding(crate::specs::Steps::text_step))]
 pub fn text_step(doc: &[u8], v: View, room: Room, token: u8, mode: Mode) -> Result<Step, Refusal>
     requires { v.at < length doc.now }

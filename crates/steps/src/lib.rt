@@ -2,15 +2,15 @@
 #![tactic(auto)]
 
 ghost use Rattle.std.specs.Prelude.{◌≡◌, ◌+◌, ◌*◌, ◌≤◌, ◌<◌, length, get_or};
-ghost use Rattle.scan.specs.Bounds.{Fine};
+ghost use Rattle.scan.specs.Bounds.{FineIf};
 ghost use Rattle.modes.specs.Modes.{after_misc};
-ghost use Rattle.rows.specs.Tables.{tables, put2, put3, put4, row_at, with_name, with_qname, with_frame, parent, EventFits, evented, named, qnamed, entered, element_closed, inside, outside, Turned, Held};
+ghost use Rattle.rows.specs.Tables.{tables, put2, put3, put4, row_at, with_name, with_qname, with_frame, parent, EventFits, evented, named, qnamed, entered, element_closed, inside, outside, TurnedIf, Held};
 ghost use Rattle.token.specs.Tokens.{ELEMENT_TOKEN, PI_TOKEN, ENDELEMENT_TOKEN, NEST_TOKEN, ENDNEST_TOKEN, name_width, qname_width, longest, name_rows, qname_rows, open_elements, nested_documents};
 
 use modes::{Mode, View};
 use rows::Stacks;
 use scan::{Room, Step};
-use token::{NameNumber, QnameNumber};
+use token::{NameNumber, QnameNumber, Refusal};
 
 fn define_name(
     names: &mut [u32],
@@ -181,7 +181,8 @@ fn leave_document(events: &mut [u32], stacks: &Stacks, v: View, next: usize) -> 
     rows::past_leave(stacks.parent(v), v, next)
 }
 
-// What a step does to the tables, and the view after it. `size` and `room` only say what the step was judged by.
+// What a step does to the tables, and the view after it. A refusal leaves all as it was. `size` and `room` only say what the step was
+// judged by.
 // The three tables are lent one by one: as one struct they would be references that are passed by value.
 pub fn turn(
     names: &mut [u32],
@@ -191,44 +192,53 @@ pub fn turn(
     v: View,
     room: Room,
     size: usize,
-    step: Step,
+    step: Result<Step, Refusal>,
 ) -> View
-    requires { Held size room (tables names.old qnames.old events.old stacks.old) v × Fine size v room step }
-    ensures { Turned (tables names.old qnames.old events.old stacks.old)
+    requires { Held size room (tables names.old qnames.old events.old stacks.old) v × FineIf size v room step }
+    ensures { TurnedIf (tables names.old qnames.old events.old stacks.old)
         (tables names.new qnames.new events.new stacks.new) v step result }
 {
     match step {
-        Step::End { place: _ } => v,
-        Step::Name { place, units, next } => define_name(names, stacks, v, place, units, next),
-        Step::Qname {
-            uri,
-            prefix,
-            local,
-            next,
-        } => define_qname(qnames, stacks, v, uri, prefix, local, next),
-        Step::Skip { next } => rows::skip(v, next),
-        Step::Flush { next } => rows::past_flush(v, next),
-        Step::Event {
-            token,
-            a,
-            b,
-            mode,
-            next,
-        } => add_event(events, v, token, a, b, mode, next),
-        Step::Refer {
-            token,
-            number,
-            mode,
-            next,
-        } => add_reference(events, stacks, v, token, number, mode, next),
-        Step::Open { number, next } => add_element(events, stacks, v, number, next),
-        Step::Pi {
-            target,
-            start,
-            next,
-        } => add_pi(events, stacks, v, target, start, next),
-        Step::Close { next } => close_element(events, v, next),
-        Step::Nest { version, next } => enter_document(events, stacks, v, version, next),
-        Step::Leave { next } => leave_document(events, stacks, v, next),
+        Ok(Step::End { place: _ }) => v,
+        Ok(Step::Name { place, units, next }) => define_name(names, stacks, v, place, units, next),
+        Ok(
+            Step::Qname {
+                uri,
+                prefix,
+                local,
+                next,
+            },
+        ) => define_qname(qnames, stacks, v, uri, prefix, local, next),
+        Ok(Step::Skip { next }) => rows::skip(v, next),
+        Ok(Step::Flush { next }) => rows::past_flush(v, next),
+        Ok(
+            Step::Event {
+                token,
+                a,
+                b,
+                mode,
+                next,
+            },
+        ) => add_event(events, v, token, a, b, mode, next),
+        Ok(
+            Step::Refer {
+                token,
+                number,
+                mode,
+                next,
+            },
+        ) => add_reference(events, stacks, v, token, number, mode, next),
+        Ok(Step::Open { number, next }) => add_element(events, stacks, v, number, next),
+        Ok(
+            Step::Pi {
+                target,
+                start,
+                next,
+            },
+        ) => add_pi(events, stacks, v, target, start, next),
+        Ok(Step::Close { next }) => close_element(events, v, next),
+        Ok(Step::Nest { version, next }) => enter_document(events, stacks, v, version, next),
+        Ok(Step::Leave { next }) => leave_document(events, stacks, v, next),
+        Err(_) => v,
     }
 }

@@ -21,6 +21,13 @@ const SLOTS: usize = 4096;
 
 const MODULUS: u64 = SLOTS as u64;
 
+// With an early exit, though the comparison is then not vectorised, as that of `==` is: most parts are short.
+fn same_numbers(a: &[u32], b: &[u32]) -> bool
+    ensures { result ≡ same a.now b.now }
+{
+    a.len() == b.len() && a.iter().zip(b).all(|(x, y)| x == y)
+}
+
 // The n parts of one array, one after the other, and the hash of each. Starts and hashes stay two arrays: `link` is lent them apart by
 // render's buffers.
 #[derive(Drop)]
@@ -53,7 +60,7 @@ impl Parts<'_> {
         if self.hashes[j + 1] != h {
             return false;
         }
-        self.part(i) == self.part(j)
+        same_numbers(self.part(i), self.part(j))
     }
 
     // The next part equal to part i, along the chain of its slot.

@@ -90,7 +90,7 @@ module _ (p : List ℕ) (k : ℕ) {plan : Plan} (h : k < length (units_by plan p
   pub unit_on : {q : Plan} {r : ℕ} → plan ≡ q → r ≡ get_or (units_by q p) k 0 → r ≡ get_or (units_by plan p) k 0
   unit_on {r = r} e u = subst (λ (x : Plan). r ≡ get_or (units_by x p) k 0) (sym e) u
 
-  payload_inside : plan ≡ Payload → PayloadFits plan p → 2 * k + 1 < length p
+  pub payload_inside : plan ≡ Payload → PayloadFits plan p → 2 * k + 1 < length p
   payload_inside e f =
       let a : k < length (units_of p) = inside e in
       let b : length p ≡ 2 * length (units_of p) = subst (λ (q : Plan). PayloadFits q p) e f in

@@ -11,18 +11,12 @@ pub loop-b-init : goal.loop-b-init
 unfolding hex
 loop-b-init c = (none_put c.args.text.now c.args.end, omega arith)
 
-pub put_word-at-requires : goal.put_word-at-requires
-put_word-at-requires c =
-    let p = c.loop-b.invariant in
-    let t = YieldsList-turn (YieldsList-from_rev_slice c.args.bytes.now cc) c.loop-b.yielded _ c.loop-b.yielded_by _ _ c.in-Some.b c.in-Some.is c.next.ensures.steps in
-    (omega (arith, t.0, length-reverse c.args.bytes.now, p.1, c.requires.0), omega (arith, p.0.place, p.0.long, c.requires.1))
-
 pub loop-b-preserved : goal.loop-b-preserved
 loop-b-preserved c =
     let p = c.loop-b.invariant in
-    let q = c.put_word-at.ensures in (
-      hex_next c.loop-b.yielded c.in-Some.b p.0 c.hex_digit-high.ensures c.hex_digit-low.ensures q,
-      omega (arith, p.1, q.place, length-append c.loop-b.yielded (c.in-Some.b ∷ [])),
+    let t = YieldsList-turn (YieldsList-from_rev_slice c.args.bytes.now cc) c.loop-b.yielded _ c.loop-b.yielded_by _ _ c.in-Some.b c.in-Some.is c.next.ensures.steps in (
+      hex_next c.loop-b.yielded c.in-Some.b p.0 (omega (arith, t.0, length-reverse c.args.bytes.now, p.1, c.requires.0)) c.requires.1 c.hex_digit-in-loop-b.ensures c.hex_digit.ensures,
+      omega (arith, t.0, length-reverse c.args.bytes.now, p.1, c.requires.0, length-append c.loop-b.yielded (c.in-Some.b ∷ [])),
     )
 
 pub returns : goal.returns

@@ -5,7 +5,7 @@ use Rattle.common.specs.declared.Common.TheVariants.{End, Begin, Fixed}
 use Rattle.std.specs.Prelude.{Some, Ok}
 use Rattle.machine.proofs.Goes as stops
 use Rattle.reader.proofs.Short.{common_fine, ended, begun, valued}
-use Rattle.reader.proofs.Walks.{goes, fine_ok, held_here, going, nearer, ending, starting}
+use Rattle.reader.proofs.Walks.{goes, fine_ok, turned_ok, held_here, going, nearer, ending, starting}
 use Rattle.rows.specs.Tables.{no_frame}
 use Rattle.rows.specs.declared.Frame.{Frame}
 use lib.ListN.{length, length-replicate}
@@ -67,20 +67,20 @@ pub loop-events-preserved-in-Some-Fixed : goal.loop-events-preserved-in-Some-Fix
 loop-events-preserved-in-Some-Fixed c = (valued c.loop-events.invariant c.common_at-common.ensures (let e : c.common_at-common.result ≡ Some (Fixed c.in-Some-Fixed.size) = search rules in e) c.add_value-v.ensures.0 c.add_value-v.ensures.1).walks
 
 pub turn-v-requires : goal.turn-v-requires
-turn-v-requires c = (held_here c.loop-events.invariant, fine_ok (length c.args.doc.now) c.loop-events.v c.args.room c.in-Ok.is c.step_at.ensures.1)
+turn-v-requires c = (held_here c.loop-events.invariant, c.step_at-found.ensures.1)
 
 pub loop-events-smaller : goal.loop-events-smaller
 loop-events-smaller c =
-    let f = fine_ok (length c.args.doc.now) c.loop-events.v c.args.room c.in-Ok.is c.step_at.ensures.1 in
-    let n = nearer c.loop-events.invariant c.in-Ok.step (goes c.in-Ok.step c.in_default.not-End) f c.turn-v.ensures in omega arith
+    let f = fine_ok (length c.args.doc.now) c.loop-events.v c.args.room c.in-Ok.is c.step_at-found.ensures.1 in
+    let n = nearer c.loop-events.invariant c.in-Ok.field-0 (goes c.in-Ok.field-0 (search rules)) f (turned_ok c.in-Ok.is c.turn-v.ensures) in omega arith
 
 pub loop-events-preserved : goal.loop-events-preserved
 loop-events-preserved c =
-    let f = fine_ok (length c.args.doc.now) c.loop-events.v c.args.room c.in-Ok.is c.step_at.ensures.1 in
-    going c.loop-events.invariant c.in-Ok.step (sym c.in-Ok.is ∙ c.step_at.ensures.0) (goes c.in-Ok.step c.in_default.not-End) f c.turn-v.ensures
+    let f = fine_ok (length c.args.doc.now) c.loop-events.v c.args.room c.in-Ok.is c.step_at-found.ensures.1 in
+    going c.loop-events.invariant c.in-Ok.field-0 (sym c.in-Ok.is ∙ c.step_at-found.ensures.0) (goes c.in-Ok.field-0 (search rules)) f (turned_ok c.in-Ok.is c.turn-v.ensures)
 
-pub returns-in-End : goal.returns-in-End
-returns-in-End c = rw c.answered-in-End.ensures (ending c.loop-events.invariant _ _ stops.ended c.step_at.ensures.0 (c.in-Ok.is ∙ ap Ok c.in-End.is))
+pub returns-in-Ok-End : goal.returns-in-Ok-End
+returns-in-Ok-End c = rw c.answered-in-Ok-End.ensures (ending c.loop-events.invariant _ _ stops.ended c.step_at-found.ensures.0 (c.in-Ok-End.is ∙ ap Ok (rw c.in-Ok-End.is at c.in-Ok-End.field-0-is)))
 
 pub returns-in-Err : goal.returns-in-Err
-returns-in-Err c = rw (c.answered.ensures, c.number.ensures) (ending c.loop-events.invariant _ _ stops.refused c.step_at.ensures.0 c.in-Err.is)
+returns-in-Err c = rw (c.answered.ensures, c.number.ensures) (ending c.loop-events.invariant _ _ stops.refused c.step_at-found.ensures.0 c.in-Err.is)

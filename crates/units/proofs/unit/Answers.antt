@@ -1,4 +1,5 @@
 -- `units::unit` meets its contract: each arm by the law of its plan. Assumes nothing.
+use Rattle.std.proofs.Common.{rules}
 use Rattle.units.proofs.UnitAt.{short_base64, payload_unit, hex_inside, base64_inside, small_text, text_unit}
 use Rattle.units.proofs.unit.Goals as goal
 
@@ -18,5 +19,5 @@ returns-in-Payload c =
 pub returns-in-Number : goal.returns-in-Number
 returns-in-Number c =
     let a = c.args in
-    let f = small_text a.payload.now a.k c.requires.3 a.small.now c.requires.2 c.in-Number.is in
+    let f = small_text a.payload.now a.k c.requires.3 a.small.now c.requires.2 (search rules) in
     text_unit a.k _ c.requires.3 c.text.ensures f c.unit_of-in-Number.ensures

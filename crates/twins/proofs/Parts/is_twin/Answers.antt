@@ -9,4 +9,4 @@ returns-then-self-j c =
     not_same _ _ (λ e. c.if-self-j.true (c.args.self.now.hashed _ c.requires.1 ∙ sym (ap hash_of e) ∙ sym c.requires.2))
 
 pub returns : goal.returns
-returns c = rw (← c.part.ensures, ← c.part-2.ensures) c.eq.ensures
+returns c = rw (← c.part.ensures, ← c.part-2.ensures) c.same_numbers.ensures
