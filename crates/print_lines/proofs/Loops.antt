@@ -9,7 +9,7 @@ use Rattle.std.proofs.lemmas.List.{map-append}
 use Rattle.numeral.specs.Numeral.{unless_zero, digits_in, digits}
 use Rattle.hexadecimal.specs.Hexadecimal.{hex_digit, hex}
 use Rattle.print_lines.specs.Lines.{PutBefore}
-use Rattle.print_lines.proofs.Laws.{none_put, one_put}
+use Rattle.print_lines.proofs.Laws.{none_put, one_put, both_put}
 
 -- ---- a number
 
@@ -87,14 +87,24 @@ module _ {n v end at : ℕ} {before after : List ℕ} (f : DigitsSoFar n v befor
 abbrev pub seen : List (Bor ℕ) → List ℕ
 seen bs = reverse (map (λ b. b.now) bs)
 
--- one byte more: its low digit, and its high digit before that
-pub hex_next : (bs : List (Bor ℕ)) (b : Bor ℕ) {before after : List ℕ} {end at high low : ℕ} → PutBefore before after end at (hex (seen bs)) → 2 ≤ at
+-- one byte more: its two digits are put
+pub hex_next : (bs : List (Bor ℕ)) (b : Bor ℕ) {before after last : List ℕ} {end at from low high : ℕ} → PutBefore before after end at (hex (seen bs))
+    → high ≡ hex_digit (b.now / 16) → low ≡ hex_digit (b.now % 16) → PutBefore after last at from (high ∷ low ∷ [])
+    → PutBefore before last end from (hex (seen (bs ++ (b ∷ []))))
+unfolding hex
+hex_next bs b p x y q =
+    let e : seen (bs ++ (b ∷ [])) ≡ b.now ∷ seen bs = ap reverse (map-append (λ (c : Bor ℕ). c.now) bs (b ∷ [])) ∙ reverse-append (map (λ (c : Bor ℕ). c.now) bs) (b.now ∷ []) in
+    rw (e, ← x, ← y) (both_put p q)
+
+-- the same, where the low digit is stored, and the high digit before that
+pub hex_stored : (bs : List (Bor ℕ)) (b : Bor ℕ) {before after : List ℕ} {end at high low : ℕ} → PutBefore before after end at (hex (seen bs)) → 2 ≤ at
     → end ≤ length before → high ≡ hex_digit (b.now / 16) → low ≡ hex_digit (b.now % 16)
     → PutBefore before (set (set after (at - 1) low) (at - 1 - 1) high) end (at - 1 - 1) (hex (seen (bs ++ (b ∷ []))))
-unfolding hex
-hex_next bs b {at = at} {high} {low} p r i x y =
-    let e : seen (bs ++ (b ∷ [])) ≡ b.now ∷ seen bs = ap reverse (map-append (λ (c : Bor ℕ). c.now) bs (b ∷ [])) ∙ reverse-append (map (λ (c : Bor ℕ). c.now) bs) (b.now ∷ []) in
-    rw (e, ← x, ← y) (one_put (one_put p low (omega arith) i) high (omega arith) i)
+hex_stored bs b {after = after} {at = at} {high} {low} p r i x y =
+    let l = p.place in
+    let m = p.long in
+    let j : at ≤ length after = omega arith in
+    hex_next bs b p x y (one_put (one_put (none_put after at) low (omega arith) j) high (omega arith) j)
 
 pub hex_end : (bs : List (Bor ℕ)) (bytes : List ℕ) {before after : List ℕ} {end at : ℕ} → map (λ b. b.now) bs ≡ reverse bytes → PutBefore before after end at (hex (seen bs))
     → PutBefore before after end at (hex bytes)
